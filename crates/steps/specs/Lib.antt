@@ -1,0 +1,6 @@
+-- What the contracts of `steps` cite.
+pub mod Answers
+pub mod Opening
+pub mod Refusals
+pub mod Steps
+mod Figures
