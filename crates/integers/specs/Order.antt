@@ -34,7 +34,7 @@ pub ≤ℤ-or-<ℤ : (a b : ℤ) → (a ≤ℤ b) ⊎ (b <ℤ a)
 
 -- ---- tests, named as the kit's of natural numbers: `ltb-true`, `lt-ltb`
 
-module _ {a b : ℤ} where
+module _ (a b : ℤ) where
   pub ltZ-true : ltZ a b ≡ true → a <ℤ b
   ltZ-true e = omega integers
 
