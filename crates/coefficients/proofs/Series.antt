@@ -4,8 +4,7 @@ use Prim.Native.Nat.{ℕ, zero, suc, pred, _+_, _*_, _≤_}
 use native.Mathlib.Nat.{le-of-suc-le-suc, not-suc-le-zero, mul-one}
 use native.Mathlib.Omega.{arith}
 use mathlib.Core.List.{_∷_}
-use mathlib.Core.Bool.{Bool, true, false, _&&_}
-use lib.Dec.{T}
+use mathlib.Core.Bool.{true, and-eq-true-iff}
 use lib.IntN.{ℤ, pos, _+ℤ_, _*ℤ_}
 use lib.ListN.{take}
 use Rattle.integers.specs.Solver.{atom, terms, ring}
@@ -14,7 +13,7 @@ use Rattle.exact.specs.Numerator.{D}
 use Rattle.coefficients.specs.Fraction.{Fraction, denominator, _over_, _⊕_, _⊗_, _≐_, isWhole, times, times-exact}
 use Rattle.coefficients.specs.Rules.{c, l}
 use Rattle.coefficients.specs.Scaled.{allWhole, run, first, later, c-whole, l-whole}
-use Rattle.coefficients.specs.Formulas.{series, weightsOf, ruleOf, firstOf, unsummedCowell, adamsMoulton}
+use Rattle.coefficients.specs.Formulas.{series, weightsOf, coefficientOf, firstIndex, unsummedCowell, adamsMoulton}
 use Rattle.coefficients.specs.declared.Formula.{Formula}
 use Rattle.coefficients.proofs.Fractions.{below-line}
 use Rattle.coefficients.proofs.Written.{wholeOf, weights-run}
@@ -39,7 +38,7 @@ added d t x u q r e f =
     ∙ sym (ap (λ n. (q .top *ℤ x *ℤ pos (denominator r) +ℤ r .top *ℤ pos n) *ℤ pos d) once)
 
 -- THE law: for every f, i, n and samples
-pub run-series : (f : ℕ → Fraction) (i n : ℕ) (w : T (allWhole f i n)) (x : ℕ → ℤ) → byDifferences (run f i n w) x over D ≐ series f i n x
+pub run-series : (f : ℕ → Fraction) (i n : ℕ) (w : allWhole f i n ≡ true) (x : ℕ → ℤ) → byDifferences (run f i n w) x over D ≐ series f i n x
 unfolding byDifferences run series
 run-series f i zero w x = refl
 run-series f i (suc n) w x =
@@ -48,30 +47,26 @@ run-series f i (suc n) w x =
 
 -- ---- the first p of n
 
-both : (a b : Bool) → T a → T b → T (a && b)
-both true b s t = t
-both false b s t = s
-
-fewer : (f : ℕ → Fraction) (i p n : ℕ) → p ≤ n → T (allWhole f i n) → T (allWhole f i p)
-fewer f i zero n h w = tt
+fewer : (f : ℕ → Fraction) (i p n : ℕ) → p ≤ n → allWhole f i n ≡ true → allWhole f i p ≡ true
+fewer f i zero n h w = refl
 fewer f i (suc p) zero h w = absurd (not-suc-le-zero h)
-fewer f i (suc p) (suc n) h w = both (isWhole D (f i)) (allWhole f (suc i) p) (first f i n w) (fewer f (suc i) p n (le-of-suc-le-suc h) (later f i n w))
+fewer f i (suc p) (suc n) h w = and-eq-true-iff (isWhole D (f i)) (allWhole f (suc i) p) .1 (first f i n w, fewer f (suc i) p n (le-of-suc-le-suc h) (later f i n w))
 
-take-run : (f : ℕ → Fraction) (i p n : ℕ) → p ≤ n → (w : T (allWhole f i n)) (v : T (allWhole f i p)) → take p (run f i n w) ≡ run f i p v
+take-run : (f : ℕ → Fraction) (i p n : ℕ) → p ≤ n → (w : allWhole f i n ≡ true) (v : allWhole f i p ≡ true) → take p (run f i n w) ≡ run f i p v
 unfolding run times
 take-run f i zero n h w v = refl
 take-run f i (suc p) zero h w v = absurd (not-suc-le-zero h)
 take-run f i (suc p) (suc n) h w v = ap (λ ts. times D (f i) (first f i n w) ∷ ts) (take-run f (suc i) p n (le-of-suc-le-suc h) (later f i n w) (later f i p v))
 
-pub first-series : (f : ℕ → Fraction) (i p n : ℕ) → p ≤ n → (w : T (allWhole f i n)) (x : ℕ → ℤ) → byDifferences (take p (run f i n w)) x over D ≐ series f i p x
+pub first-series : (f : ℕ → Fraction) (i p n : ℕ) → p ≤ n → (w : allWhole f i n ≡ true) (x : ℕ → ℤ) → byDifferences (take p (run f i n w)) x over D ≐ series f i p x
 first-series f i p n h w x =
     let v = fewer f i p n h w in
     rw (take-run f i p n h w v) (run-series f i p v x)
 
 -- ---- each formula
 
-pub formula-series : (f : Formula) (p : ℕ) → p ≤ 9 → (x : ℕ → ℤ) → byDifferences (weightsOf f p) x over D ≐ series (ruleOf f) (firstOf f) p x
-formula-series f p h x = rw (weights-run f p) (first-series (ruleOf f) (firstOf f) p 9 h (wholeOf f) x)
+pub formula-series : (f : Formula) (p : ℕ) → p ≤ 9 → (x : ℕ → ℤ) → byDifferences (weightsOf f p) x over D ≐ series (coefficientOf f) (firstIndex f) p x
+formula-series f p h x = rw (weights-run f p) (first-series (coefficientOf f) (firstIndex f) p 9 h (wholeOf f) x)
 
 pub cowell-series : (p : ℕ) → p ≤ 9 → (x : ℕ → ℤ) → byDifferences (unsummedCowell p) x over D ≐ series l 0 (p + 2) x
 unfolding unsummedCowell

@@ -21,6 +21,11 @@ back x k = x k -ℤ x (suc k)
 abbrev pub older : (ℕ → ℤ) → ℕ → ℤ
 older x k = x (suc k)
 
+-- the samples with one more in front
+abbrev pub inFront : ℤ → (ℕ → ℤ) → ℕ → ℤ
+inFront a x zero = a
+inFront a x (suc k) = x k
+
 -- by differences: a₀ x(0) + a₁ Bx(0) + a₂ BBx(0) + ..
 unfoldable pub byDifferences : List ℤ → (ℕ → ℤ) → ℤ
 byDifferences [] x = pos 0
