@@ -3,12 +3,12 @@ ghost use mathlib.Core.Path.{_≡_};
 ghost use Rattle.ticks.specs.Round.{ticksIn};
 ghost use Rattle.ticks.specs.Samples.{faultIn, sampleOf};
 ghost use Rattle.ticks.specs.Faults.{faultOf, rank, worse, gathered};
-use crate::rounding::round_to_tick;
 use crate::Fault;
 use crate::Rounded;
 use crate::RoundedSample;
 use crate::Sample;
 use crate::WholeSample;
+use crate::rounding::round_to_tick;
 
 // Nothing where there are ticks.
 fn fault_of(r: Rounded) -> Fault
@@ -36,11 +36,7 @@ fn rank(f: Fault) -> u8
 fn worse(a: Fault, b: Fault) -> Fault
     ensures { λ r. ⌜ r ≡ worse a b ⌝ }
 {
-    if rank(a) < rank(b) {
-        b
-    } else {
-        a
-    }
+    if rank(a) < rank(b) { b } else { a }
 }
 
 // Zero where there are none.

@@ -1,15 +1,14 @@
 -- `ticks::samples::fault_in` meets its contract: the worse of what was met and what is wrong with the rest is what is wrong with all.
-use mathlib.Core.Path.{_≡_, refl, sym, ap, _∙_}
+use mathlib.Core.Path.{_≡_, sym, ap, _∙_}
 use Prim.Native.Nat.{ℕ, suc, _+_, _-_, _≤_, _<_}
 use native.Mathlib.Omega.{arith}
 use native.Mathlib.Numerals.{add-one}
-use mathlib.Core.List.{List, []}
+use mathlib.Core.List.{List}
 use borrow.Author.Needs.{needs}
 use lib.ListN.{length, getD, drop, drop-of-length-le}
 use lib.Seq.{drop-cons}
 use lib.Ieee.{Float}
 use Rattle.ticks.specs.declared.Fault.{Fault}
-use Rattle.ticks.specs.declared.Fault.the-variants.{Nothing}
 use Rattle.ticks.specs.Round.{roundedOf}
 use Rattle.ticks.specs.Samples.{any, faultIn}
 use Rattle.ticks.specs.Faults.{faultOf, worse}

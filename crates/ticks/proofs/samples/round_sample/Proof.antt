@@ -1,11 +1,10 @@
 -- `ticks::samples::round_sample` meets its contract: each axis is rounded, and the worst fault is that of the three.
-use mathlib.Core.Path.{_≡_, refl, sym, ap, _∙_}
+use mathlib.Core.Path.{_≡_, ap, _∙_}
 use mathlib.Core.List.{[], _∷_}
-use lib.Ieee.{Float}
 use Rattle.ticks.specs.declared.Rounded.{Rounded}
 use Rattle.ticks.specs.declared.Sample.{Sample}
 use Rattle.ticks.specs.Round.{roundedOf}
-use Rattle.ticks.specs.Samples.{any, faultIn, axesOf, wholeOf, sampleOf}
+use Rattle.ticks.specs.Samples.{any, faultIn, axesOf, sampleOf}
 use Rattle.ticks.specs.Faults.{faultOf, worse, gathered}
 use Rattle.ticks.proofs.Faults.{fault-cons, worse-nothing}
 use Rattle.ticks.proofs.samples.round_sample.Statement.{statement}
