@@ -1,25 +1,17 @@
--- The bridge from ℤ to `omega`: an integer as the difference `p ⊖ n` of two naturals. Assumes nothing.
+-- The bridge from ℤ to `omega` for a goal that holds sums, products and literals: an integer as the difference `p ⊖ n` of two naturals.
 use mathlib.Core.Path.{_≡_, refl, sym, ap, ap₂, _∙_}
 use mathlib.Core.Logic.{_↔_}
-use Prim.Native.Nat.{ℕ, zero, suc, _+_, _*_, _-_, _≤_, _<_, _^_, min, max}
+use Prim.Native.Nat.{ℕ, zero, suc, _+_, _*_, _-_, _≤_, _<_, _^_}
 use native.Mathlib.Nat.{add-zero, add-comm}
 use native.Mathlib.Omega.{arith}
 use mathlib.Core.Bool.{cond}
-use lib.Dec.{T, ltb, leb, leb→le, le→leb, ltb→lt, lt→ltb, leb·suc-zero}
+use lib.Dec.{ltb, leb·suc-zero}
 use lib.IntN.{ℤ, pos, negsuc, negℤ, natAbs, subℕ, _+ℤ_, _-ℤ_, _*ℤ_, +ℤ-assoc, +ℤ-comm, +ℤ-idl, negℤ-+ℤ, negℤ-negℤ, -ℤ-+ℤ-cancel}
-use lib.Signed.{_≤ℤ_, _<ℤ_, leZ, ltZ, mag}
+use lib.Signed.{_≤ℤ_, _<ℤ_}
 use mir.Syntax.{Width}
 use mir.Val.{SFits, hbits}
+pub use Rattle.integers.specs.Parts.{posPart, negPart, one-part, natAbs-parts, ≡-parts, parts-≡, +-parts, neg-parts, difference-parts, *-parts, multiple-parts, ≤-parts, parts-≤, <-parts, parts-<, sfits-posPart, sfits-negPart, parts-sfits, integers}
 use Rattle.integers.specs.Ring.{*ℤ-distrib-left, *ℤ-distrib-right, negℤ-*ℤ-left, negℤ-*ℤ-right, +ℤ-cancel-right, minus-*}
-
--- the two parts of an integer, of which one is 0
-abbrev pub posPart : ℤ → ℕ
-posPart (pos n) = n
-posPart (negsuc n) = 0
-
-abbrev pub negPart : ℤ → ℕ
-negPart (pos n) = 0
-negPart (negsuc n) = suc n
 
 -- p − n, for two naturals. Shut, so that it stays one term.
 infix 60 _⊖_
@@ -108,30 +100,6 @@ pub ⊖-≡ : (p n q m : ℕ) → (p ⊖ n ≡ q ⊖ m) ↔ (p + m ≡ q + n)
 pub ⊖-parts : (p n : ℕ) → posPart (p ⊖ n) + n ≡ p + negPart (p ⊖ n)
 ⊖-parts p n = sym (⊖-≡ p n (posPart (p ⊖ n)) (negPart (p ⊖ n)) .0 (parts (p ⊖ n)))
 
-pub ≤-parts : {a b : ℤ} → a ≤ℤ b → posPart a + negPart b ≤ posPart b + negPart a
-≤-parts {a = pos a} {b = pos b} h = omega (arith, leb→le a b (h .le))
-≤-parts {a = pos a} {b = negsuc b} h = absurd (h .le)
-≤-parts {a = negsuc a} {b = pos b} h = omega arith
-≤-parts {a = negsuc a} {b = negsuc b} h = omega (arith, leb→le b a (h .le))
-
-pub parts-≤ : {a b : ℤ} → posPart a + negPart b ≤ posPart b + negPart a → a ≤ℤ b
-parts-≤ {a = pos a} {b = pos b} h = record { le = le→leb a b (omega arith) }
-parts-≤ {a = pos a} {b = negsuc b} h = absurd (omega arith)
-parts-≤ {a = negsuc a} {b = pos b} h = record { le = tt }
-parts-≤ {a = negsuc a} {b = negsuc b} h = record { le = le→leb b a (omega arith) }
-
-pub <-parts : {a b : ℤ} → a <ℤ b → posPart a + negPart b < posPart b + negPart a
-<-parts {a = pos a} {b = pos b} h = omega (arith, ltb→lt a b (h .lt))
-<-parts {a = pos a} {b = negsuc b} h = absurd (h .lt)
-<-parts {a = negsuc a} {b = pos b} h = omega arith
-<-parts {a = negsuc a} {b = negsuc b} h = omega (arith, ltb→lt b a (h .lt))
-
-pub parts-< : {a b : ℤ} → posPart a + negPart b < posPart b + negPart a → a <ℤ b
-parts-< {a = pos a} {b = pos b} h = record { lt = lt→ltb a b (omega arith) }
-parts-< {a = pos a} {b = negsuc b} h = absurd (omega arith)
-parts-< {a = negsuc a} {b = pos b} h = record { lt = tt }
-parts-< {a = negsuc a} {b = negsuc b} h = record { lt = lt→ltb b a (omega arith) }
-
 pub ⊖-≤ : (p n q m : ℕ) → ((p ⊖ n) ≤ℤ (q ⊖ m)) ↔ (p + m ≤ q + n)
 ⊖-≤ p n q m = (
   (λ h. omega (arith, ≤-parts h, ⊖-parts p n, ⊖-parts q m)),
@@ -144,70 +112,14 @@ pub ⊖-< : (p n q m : ℕ) → ((p ⊖ n) <ℤ (q ⊖ m)) ↔ (p + m < q + n)
   (λ h. parts-< (omega (arith, ⊖-parts p n, ⊖-parts q m))),
 )
 
--- ---- the same as facts on `posPart` and `negPart`, for `omega`'s list: where a hypothesis, and not the goal, holds a sum, a negation or a product
-
-pub ≡-parts : {a b : ℤ} → a ≡ b → posPart a + negPart b ≡ posPart b + negPart a
-≡-parts {a} {b} e = ⊖-≡ (posPart a) (negPart a) (posPart b) (negPart b) .0 (sym (parts a) ∙ e ∙ parts b)
-
-pub parts-≡ : {a b : ℤ} → posPart a + negPart b ≡ posPart b + negPart a → a ≡ b
-parts-≡ {a} {b} h = parts a ∙ ⊖-≡ (posPart a) (negPart a) (posPart b) (negPart b) .1 h ∙ sym (parts b)
-
-pub +-parts : (a b : ℤ) → posPart (a +ℤ b) + (negPart a + negPart b) ≡ (posPart a + posPart b) + negPart (a +ℤ b)
-+-parts a b =
-    let e : a +ℤ b ≡ (posPart a + posPart b) ⊖ (negPart a + negPart b) = ap₂ (λ x y. x +ℤ y) (parts a) (parts b) ∙ ⊖-+ (posPart a) (negPart a) (posPart b) (negPart b) in
-    omega (arith, ≡-parts e, ⊖-parts (posPart a + posPart b) (negPart a + negPart b))
-
-pub neg-parts : (a : ℤ) → (posPart (negℤ a) ≡ negPart a) × (negPart (negℤ a) ≡ posPart a)
-neg-parts (pos zero) = (refl, refl)
-neg-parts (pos (suc n)) = (refl, refl)
-neg-parts (negsuc n) = (refl, refl)
-
-pub *-parts : (a b : ℤ) → (posPart (a *ℤ b) ≡ posPart a * posPart b + negPart a * negPart b) × (negPart (a *ℤ b) ≡ posPart a * negPart b + negPart a * posPart b)
-*-parts (pos a) (pos b) = omega arith
-*-parts (pos a) (negsuc b) = omega (arith, neg-parts (pos (a * suc b)))
-*-parts (negsuc a) (pos b) = omega (arith, neg-parts (pos (suc a * b)))
-*-parts (negsuc a) (negsuc b) = omega arith
-
-pub one-part : (z : ℤ) → min (posPart z) (negPart z) ≡ 0
-one-part (pos n) = omega arith
-one-part (negsuc n) = omega arith
-
-pub natAbs-parts : (z : ℤ) → natAbs z ≡ posPart z + negPart z
-natAbs-parts (pos n) = omega arith
-natAbs-parts (negsuc n) = omega arith
-
--- ---- the machine's range: −2 ^ 63 ≤ z < 2 ^ 63 at `w64`
-
-pub sfits-P : {w : Width} {z : ℤ} → SFits w z → posPart z < 2 ^ hbits w
-sfits-P {w} {z = pos n} f = f .sfits
-sfits-P {w} {z = negsuc n} f = omega (arith, f .sfits)
-
-pub sfits-N : {w : Width} {z : ℤ} → SFits w z → negPart z ≤ 2 ^ hbits w
-sfits-N {w} {z = pos n} f = omega arith
-sfits-N {w} {z = negsuc n} f = f .sfits
-
--- both, in one order
-pub sfits-parts : {w : Width} {z : ℤ} → SFits w z → max (posPart z + 1) (negPart z) ≤ 2 ^ hbits w
-sfits-parts f = omega (arith, sfits-P f, sfits-N f)
-
--- posPart z < 2 ^ 63 + negPart z and negPart z ≤ 2 ^ 63 + posPart z, in one order
-pub parts-sfits : {w : Width} {z : ℤ} → max (2 * posPart z + 1) (2 * negPart z) ≤ 2 ^ hbits w + (posPart z + negPart z) → SFits w z
-parts-sfits {w} {z = pos n} h = record { sfits = omega arith }
-parts-sfits {w} {z = negsuc n} h = record { sfits = omega arith }
-
 pub ⊖-sfits : (w : Width) (p n : ℕ) → SFits w (p ⊖ n) ↔ ((p < 2 ^ hbits w + n) × (n ≤ 2 ^ hbits w + p))
 ⊖-sfits w p n = (
-  (λ f. omega (arith, sfits-P f, sfits-N f, ⊖-parts p n)),
+  (λ f. omega (arith, sfits-posPart f, sfits-negPart f, ⊖-parts p n)),
   (λ h. parts-sfits (omega (arith, ⊖-parts p n))),
 )
 
 pub ⊖-natAbs : (p n : ℕ) → natAbs (p ⊖ n) ≡ (p - n) + (n - p)
 ⊖-natAbs p n = omega (arith, natAbs-parts (p ⊖ n), one-part (p ⊖ n), ⊖-parts p n)
 
--- ---- the two sets that other files use
-
 -- for `simp`, after `rw (parts a, parts b, ..)`: turns a statement on integers into one on naturals
 pub ruleset differences = (⊖-pos, ⊖-negsuc, ⊖-pos-+, ⊖-negsuc-+, ⊖-pos-*, ⊖-negsuc-*, ⊖-minus-*, ⊖-neg-pos, ⊖-cond, ⊖-+, ⊖-neg, ⊖-*, ⊖-≡, ⊖-≤, ⊖-<, ⊖-sfits, ⊖-natAbs)
-
--- for `omega`: reads `≤ℤ`, `<ℤ`, `≡` and `SFits` of integers among the hypotheses and in the goal
-pub ruleset integers = (arith, ≤-parts, parts-≤, <-parts, parts-<, ≡-parts, parts-≡, sfits-parts, parts-sfits)
