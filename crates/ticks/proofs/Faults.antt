@@ -14,7 +14,7 @@ use Rattle.ticks.specs.declared.Sample.{Sample}
 use Rattle.ticks.specs.declared.Fault.{Fault}
 use Rattle.ticks.specs.declared.Fault.the-variants.{Nothing, NotANumber, Infinite, TooLarge}
 use Rattle.ticks.specs.Round.{roundedOf, isNotANumber, isInfinite, isTooLarge, ticksIn}
-use Rattle.ticks.specs.Samples.{any, faultIn, FaultIn, AllTicks, WithinLimit, wholeOf}
+use Rattle.ticks.specs.Samples.{any, faultIn, FaultMeans, AllTicks, WithinLimit, wholeOf}
 use Rattle.ticks.specs.Faults.{faultOf, rank, worse}
 use Rattle.ticks.proofs.Meaning.{ticks-small}
 
@@ -79,25 +79,25 @@ fault-cons x xs = one-more (roundedOf x) (any isNotANumber xs) (any isInfinite x
 -- ---- what a fault says of the tests
 
 module _ (xs : List Float) where
-  holds : FaultIn xs (faultIn xs)
+  holds : FaultMeans xs (faultIn xs)
   unfolding faultIn
   holds = go (any isNotANumber xs) (any isInfinite xs) (any isTooLarge xs) refl refl refl
     where
-      go : (a b c : Bool) → any isNotANumber xs ≡ a → any isInfinite xs ≡ b → any isTooLarge xs ≡ c → FaultIn xs (by-tests a b c)
+      go : (a b c : Bool) → any isNotANumber xs ≡ a → any isInfinite xs ≡ b → any isTooLarge xs ≡ c → FaultMeans xs (by-tests a b c)
       go true b c p q r = p
       go false true c p q r = (p, q)
       go false false true p q r = (p, q, r)
       go false false false p q r = (p, q, r)
 
-  only : (f : Fault) → FaultIn xs f → faultIn xs ≡ f
+  only : (f : Fault) → FaultMeans xs f → faultIn xs ≡ f
   unfolding faultIn
   only NotANumber h = simp h
   only Infinite h = simp (h .0, h .1)
   only TooLarge h = simp (h .0, h .1, h .2)
   only Nothing h = simp (h .0, h .1, h .2)
 
-  pub fault-means : (f : Fault) → (faultIn xs ≡ f) ↔ FaultIn xs f
-  fault-means f = (λ e. subst (FaultIn xs) e holds, only f)
+  pub fault-means : (f : Fault) → (faultIn xs ≡ f) ↔ FaultMeans xs f
+  fault-means f = (λ e. subst (FaultMeans xs) e holds, only f)
 
 -- ---- nothing is wrong exactly where every float rounds to ticks
 

@@ -27,18 +27,6 @@ faultIn xs =
     (cond (any isTooLarge xs) TooLarge
     Nothing))
 
--- what each fault says of the three tests
-abbrev pub FaultIn : List Float → Fault → Type 0
-FaultIn xs NotANumber = any isNotANumber xs ≡ true
-FaultIn xs Infinite = (any isNotANumber xs ≡ false) × (any isInfinite xs ≡ true)
-FaultIn xs TooLarge = (any isNotANumber xs ≡ false) × (any isInfinite xs ≡ false) × (any isTooLarge xs ≡ true)
-FaultIn xs Nothing = (any isNotANumber xs ≡ false) × (any isInfinite xs ≡ false) × (any isTooLarge xs ≡ false)
-
--- every float rounds to ticks
-unfoldable pub AllTicks : List Float → Type 0
-AllTicks [] = Unit {0}
-AllTicks (x ∷ xs) = (roundedOf x ≡ Ticks (ticksIn (roundedOf x))) × AllTicks xs
-
 -- ---- a sample
 
 abbrev pub axesOf : Sample → List Float
@@ -49,6 +37,20 @@ wholeOf s = record { x = ticksIn (roundedOf (s .x)); y = ticksIn (roundedOf (s .
 
 abbrev pub sampleOf : Sample → RoundedSample
 sampleOf s = record { fault = faultIn (axesOf s); ticks = wholeOf s }
+
+-- ---- what the laws of `proofs/Faults.antt` say in these words
+
+-- what each fault says of the three tests
+abbrev pub FaultMeans : List Float → Fault → Type 0
+FaultMeans xs NotANumber = any isNotANumber xs ≡ true
+FaultMeans xs Infinite = (any isNotANumber xs ≡ false) × (any isInfinite xs ≡ true)
+FaultMeans xs TooLarge = (any isNotANumber xs ≡ false) × (any isInfinite xs ≡ false) × (any isTooLarge xs ≡ true)
+FaultMeans xs Nothing = (any isNotANumber xs ≡ false) × (any isInfinite xs ≡ false) × (any isTooLarge xs ≡ false)
+
+-- every float rounds to ticks
+unfoldable pub AllTicks : List Float → Type 0
+AllTicks [] = Unit {0}
+AllTicks (x ∷ xs) = (roundedOf x ≡ Ticks (ticksIn (roundedOf x))) × AllTicks xs
 
 -- every axis is within the limit
 pub record WithinLimit (w : WholeSample) : Type 0 where
