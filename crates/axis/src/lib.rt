@@ -1,9 +1,9 @@
 // One axis of a session: its sums and samples, the points that they give, and whether they keep the rules.
 use exact::Exact;
 
-pub mod formulas;
-pub mod holding;
-pub mod estimates;
+// pub mod formulas;
+// pub mod holding;
+// pub mod estimates;
 
 // A position and its velocity.
 pub struct Motion {

@@ -1,7 +1,5 @@
 -- What the arithmetic of a record asks, so that nothing leaves its type. A record that holds has it.
-use Prim.Native.Nat.{_≤_, _<_, _^_}
-use lib.IntN.{natAbs}
-use Rattle.ticks.specs.declared.WholeSample.{WholeSample}
+use Prim.Native.Nat.{_≤_, _<_}
 use Rattle.axis.specs.Ready.{Ready, Placed}
 use Rattle.session.specs.declared.Point.{Point}
 use Rattle.session.specs.declared.Session.{Session}
@@ -10,12 +8,6 @@ pub record ReadySession (s : Session) : Type 0 where
   pub on-x : Ready (s .points) (s .x)
   pub on-y : Ready (s .points) (s .y)
   pub on-z : Ready (s .points) (s .z)
-
--- a rounded sample
-pub record SmallSample (w : WholeSample) : Type 0 where
-  pub on-x : natAbs (w .x) ≤ 2 ^ 28
-  pub on-y : natAbs (w .y) ≤ 2 ^ 28
-  pub on-z : natAbs (w .z) ≤ 2 ^ 28
 
 -- a point in range
 pub record PlacedPoint (q : Point) : Type 0 where

@@ -2,9 +2,9 @@
 use axis::Axis;
 use axis::Motion;
 
-pub mod numbers;
-pub mod holding;
-pub mod moves;
+// pub mod numbers;
+// pub mod holding;
+// pub mod moves;
 
 pub enum State {
     Closed,

@@ -3,4 +3,3 @@ pub mod Answers
 pub mod Opening
 pub mod Refusals
 pub mod Steps
-mod Figures

@@ -2,11 +2,11 @@
 use exact::Reported;
 use session::Session;
 
-pub mod reports;
-pub mod opens;
-pub mod predicts;
-pub mod corrects;
-pub mod withdraws;
+// pub mod reports;
+// pub mod opens;
+// pub mod predicts;
+// pub mod corrects;
+// pub mod withdraws;
 
 // A position and a velocity, each beside its report.
 pub struct ReportedMotion {
