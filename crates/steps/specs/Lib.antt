@@ -1,5 +1,6 @@
--- What the contracts of `steps` cite.
+-- What the contracts of `steps` cite, and the figures.
 pub mod Answers
 pub mod Opening
 pub mod Refusals
 pub mod Steps
+pub mod Figures

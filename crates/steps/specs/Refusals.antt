@@ -9,7 +9,8 @@ use Rattle.integers.specs.Tests.{_and_, firstOf}
 use Rattle.ticks.specs.declared.Fault.{Fault}
 use Rattle.ticks.specs.declared.Fault.the-variants.{Nothing, NotANumber, Infinite, TooLarge}
 use Rattle.ticks.specs.declared.Sample.{Sample}
-use Rattle.ticks.specs.Samples.{any, isNotANumber, isInfinite, isTooLarge, axesOf, wholeOf}
+use Rattle.ticks.specs.Round.{isNotANumber, isInfinite, isTooLarge}
+use Rattle.ticks.specs.Samples.{any, axesOf, wholeOf}
 use Rattle.axis.specs.Estimates.{changeOf, agreesOn}
 use Rattle.session.specs.declared.Point.{Point}
 use Rattle.session.specs.declared.Session.{Session}
