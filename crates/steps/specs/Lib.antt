@@ -1,6 +1,7 @@
--- What the contracts of `steps` cite, and the figures.
+-- What the contracts of `steps` cite, what its laws say in these words, and the figures.
 pub mod Answers
 pub mod Opening
 pub mod Refusals
 pub mod Steps
+pub mod Unrefused
 pub mod Figures

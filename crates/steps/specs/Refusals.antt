@@ -1,4 +1,4 @@
--- Which number refuses a call: the first whose test is true, in the paper's order. Definitions only.
+-- Which number refuses a call: each call has its rules in the paper's order, and the first that applies gives its number, 0 if none does. Definitions only.
 use Prim.Native.Nat.{ℕ, max, _+_, _*_}
 use mathlib.Core.Bool.{Bool, not, _||_}
 use mathlib.Core.List.{List, [], _∷_, _++_}
@@ -22,8 +22,8 @@ use Rattle.steps.specs.Opening.{wholePoint}
 
 -- ---- samples: all of them are looked at for 4 before any is for 5
 
-unfoldable pub sampleRefusals : List Float → List (Bool × ℕ)
-sampleRefusals xs =
+unfoldable pub sampleRules : List Float → List (Bool × ℕ)
+sampleRules xs =
     (any isNotANumber xs || any isInfinite xs, 4)
     ∷ (any isTooLarge xs, 5)
     ∷ []
@@ -37,15 +37,16 @@ faultNumber TooLarge = 5
 
 -- ---- open
 
-unfoldable pub openRefusal : ℕ → ℕ → ℕ → Start → List Float → ℕ
-openRefusal p tolerance limit start floats =
-    firstOf (
+unfoldable pub openRules : ℕ → ℕ → ℕ → Start → List Float → List (Bool × ℕ)
+openRules p tolerance limit start floats =
     (not (pointsHold p), 1)
     ∷ (not (eqb (length floats) (3 * p)), 2)
     ∷ (not (settingsHold tolerance limit), 3)
     ∷ (not (pointInRange (wholePoint start)), 6)
-    ∷ sampleRefusals floats
-    )
+    ∷ sampleRules floats
+
+unfoldable pub openRefusal : ℕ → ℕ → ℕ → Start → List Float → ℕ
+openRefusal p tolerance limit start floats = firstOf (openRules p tolerance limit start floats)
 
 -- ---- predict
 
@@ -53,14 +54,15 @@ openRefusal p tolerance limit start floats =
 unfoldable pub full : Session → Bool
 full s = leb mostPoints (s .accepted)
 
-unfoldable pub predictRefusal : Session → ℕ
-predictRefusal s =
-    firstOf (
+unfoldable pub predictRules : Session → List (Bool × ℕ)
+predictRules s =
     (not (settled s), 7)
     ∷ (full s, 9)
     ∷ (not (pointInRange (predictedPoint s)), 6)
     ∷ []
-    )
+
+unfoldable pub predictRefusal : Session → ℕ
+predictRefusal s = firstOf (predictRules s)
 
 -- ---- correct
 
@@ -79,17 +81,23 @@ largestChange s q = max (changeOf (q .x) (s .x .estimate)) (max (changeOf (q .y)
 unfoldable pub isLast : Session → Bool
 isLast s = leb (s .limit) (s .corrections + 1)
 
--- the corrected point: 6, then 8
-unfoldable pub pointRefusals : Session → Point → List (Bool × ℕ)
-pointRefusals s q =
+-- the corrected point
+unfoldable pub pointRules : Session → Point → List (Bool × ℕ)
+pointRules s q =
     (not (pointInRange q), 6)
     ∷ (not (agrees s q) and isLast s, 8)
     ∷ []
 
+unfoldable pub correctRules : Session → Sample → List (Bool × ℕ)
+correctRules s a = (not (awaiting s), 7) ∷ (sampleRules (axesOf a) ++ pointRules s (correctedPoint s (wholeOf a)))
+
 unfoldable pub correctRefusal : Session → Sample → ℕ
-correctRefusal s a = firstOf ((not (awaiting s), 7) ∷ (sampleRefusals (axesOf a) ++ pointRefusals s (correctedPoint s (wholeOf a))))
+correctRefusal s a = firstOf (correctRules s a)
 
 -- ---- withdraw
 
+unfoldable pub withdrawRules : Session → List (Bool × ℕ)
+withdrawRules s = (not (awaiting s), 7) ∷ []
+
 unfoldable pub withdrawRefusal : Session → ℕ
-withdrawRefusal s = firstOf ((not (awaiting s), 7) ∷ [])
+withdrawRefusal s = firstOf (withdrawRules s)
