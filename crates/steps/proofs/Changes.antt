@@ -59,6 +59,7 @@ module _ (s : Session) (a : Sample) (q : ReportedPoint) (c : Reported) where
       by : (t : Bool) → agrees s (correctedPoint s (wholeOf a)) ≡ t → judged t s (wholeOf a) (correctedPoint s (wholeOf a)) .answer ≡ C.Again q c → (n : ℕ) × ((c ≡ reportedChange n) × (s .tolerance * D < n))
       by true f e = absurd (clash-of (cc))
       by false f e = (largestChange s (correctedPoint s (wholeOf a)), (cc, over-tolerance s (correctedPoint s (wholeOf a)) f))
+
       go : (n : ℕ) → correctBy n s (wholeOf a) .answer ≡ C.Again q c → (n : ℕ) × ((c ≡ reportedChange n) × (s .tolerance * D < n))
       go zero e = by (agrees s (correctedPoint s (wholeOf a))) refl e
       go (suc n) e = absurd (clash-of (cc))

@@ -23,7 +23,7 @@ use Rattle.session.specs.declared.Session.{Session}
 use Rattle.session.specs.Moves.{nowhere, predictedPoint, correctedPoint}
 use Rattle.session.specs.Ready.{PlacedPoint}
 use Rattle.session.proofs.Axes.{still-placed}
-use Rattle.session.proofs.Holding.{waiting}
+use Rattle.session.proofs.Rules.{waiting}
 use Rattle.session.proofs.Kept.{predicted-point-placed, corrected-point-placed}
 use Rattle.steps.specs.declared.Start.{Start}
 use Rattle.steps.specs.Answers.{Answer, answer, unless, reportedMotion, reportedPoint, reportedChange, noPoint, noChange, openingAnswer, predictionAnswer, correctionAnswer, withdrawalAnswer}
@@ -90,6 +90,7 @@ module _ (s : Session) (a : Sample) where
       by : (t : Bool) → PlacedPoint corrected → Faithful (reportedChange (largestChange s corrected)) → FaithfulAnswer (answer 0 (cond t 1 2) (reportedPoint corrected) (cond t noChange (reportedChange (largestChange s corrected))))
       by true p c = record { point = point corrected p; change = no-change }
       by false p c = record { point = point corrected p; change = c }
+
       go : (n : ℕ) → correctRefusal s a ≡ n
           → FaithfulAnswer (answer n (unless n (cond (agrees s corrected) 1 2) 0) (unless n (reportedPoint corrected) noPoint) (unless n (cond (agrees s corrected) noChange (reportedChange (largestChange s corrected))) noChange))
       go zero e =

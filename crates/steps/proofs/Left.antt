@@ -18,7 +18,7 @@ use Rattle.session.specs.declared.Session.{Session}
 use Rattle.session.specs.Numbers.{mostPoints}
 use Rattle.session.specs.Moves.{predictedPoint, correctedPoint, settledAgain, closedSession}
 use Rattle.session.specs.Holding.{holds, settled, awaiting}
-use Rattle.session.proofs.Holding.{settled-holds, awaiting-holds}
+use Rattle.session.proofs.Rules.{settled-holds, awaiting-holds}
 use Rattle.session.proofs.Kept.{predicted-holds, corrected-point-placed, again-holds, accepted-holds, settled-again, opened-session-holds}
 use Rattle.steps.specs.declared.Start.{Start}
 use Rattle.steps.specs.Answers.{NotZero}
@@ -132,10 +132,13 @@ correct-leaves s a = ⊎-elim (λ e. inr (⊎-elim (settled-holds after) (awaiti
   where
     after : Session
     after = correctOf s a .session
+
     ended : correctRefusal s a ≡ 8 → holds after ≡ true
     ended e = ap holds (correct-ends s a e) ∙ settled-holds (settledAgain s) (settled-again s (awaiting-holds s (correct-8 s a .0 e .0)))
+
     by : (t : Bool) → eqb (correctRefusal s a) 8 ≡ t → NotZero (correctRefusal s a) → (after ≡ s) ⊎ (holds after ≡ true)
     by true e f = inr (ended (eqb-true (correctRefusal s a) 8 e))
     by false e f = inl (correct-untouched s a f (eqb-false (correctRefusal s a) 8 e))
+
     refused : NotZero (correctRefusal s a) → (after ≡ s) ⊎ (holds after ≡ true)
     refused = by (eqb (correctRefusal s a) 8) refl
