@@ -114,7 +114,8 @@ pub fn correct_step(s: Session, a: Sample) -> AfterCorrect
         return refuse_correct(s, 7);
     }
     let rounded = ticks::round_sample(a);
-    let number = fault_number(rounded.fault);
+    let fault = rounded.fault;
+    let number = fault_number(fault);
     if number != 0 {
         return refuse_correct(s, number);
     }
