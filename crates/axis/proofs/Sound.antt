@@ -1,5 +1,5 @@
 -- What an axis that holds has, and that no sum of it leaves its type.
-use mathlib.Core.Path.{_≡_, refl}
+use mathlib.Core.Path.{_≡_, sym, _∙_}
 use mathlib.Core.Logic.{_↔_}
 use mathlib.Core.Bool.{true, and-eq-true-iff}
 use Prim.Native.Nat.{ℕ, _^_, _≤_, _<_}
@@ -116,3 +116,22 @@ module _ (p : ℕ) (a : Axis) (some : (1 ≤ p) × (p ≤ 9)) (t : axisHolds p a
 
   pub second-within : secondFits (a .second) ≡ true
   second-within = bounded-between (2 ^ 54) (a .second) (axis-ready p a t some .second)
+
+-- ---- an axis holds exactly when it keeps each rule
+
+pub record KeepsRules (p : ℕ) (a : Axis) : Type 0 where
+  pub remainders : remaindersHold a ≡ true
+  pub samples : samplesSmall (a .samples) ≡ true
+  pub empty-places : emptyZero p (a .samples) ≡ true
+  pub present-point : inRange (presentMotion p a) ≡ true
+  pub estimate : inRange (a .estimate) ≡ true
+
+pub holds-by-rules : (p : ℕ) (a : Axis) → (axisHolds p a ≡ true) ↔ KeepsRules p a
+unfolding axisHolds
+holds-by-rules p a = (
+  (λ t.
+    let (r, (x, (m, e))) = simp joined at t in
+    let (s, z) = simp joined at (sym (places-by-rules p (a .samples)) ∙ x) in
+    record { remainders = r; samples = s; empty-places = z; present-point = m; estimate = e }),
+  (λ k. simp joined (k .remainders, (places-by-rules p (a .samples) ∙ simp joined (k .samples, k .empty-places), (k .present-point, k .estimate)))),
+)
