@@ -1,5 +1,6 @@
 -- The change between two estimates: it has a report, and it is 0 between equal ones.
-use mathlib.Core.Path.{_≡_, refl, ap, _∙_}
+use mathlib.Core.Path.{_≡_, ap}
+use mathlib.Core.Logic.{_↔_}
 use mathlib.Core.Bool.{true}
 use Prim.Native.Nat.{ℕ, _*_, _^_, _≤_, zero-le}
 use native.Mathlib.Omega.{arith}
@@ -45,11 +46,9 @@ size-reports n h = omega arith
 
 -- ---- agreement
 
-module _ (tolerance : ℕ) (m n : Motion) where
-  pub agrees-true : agreesOn tolerance m n ≡ true → changeOf m n ≤ tolerance * D
-  unfolding agreesOn
-  agrees-true t = leb-true (changeOf m n) (tolerance * D) t
+pub agrees-iff : (tolerance : ℕ) (m n : Motion) → (agreesOn tolerance m n ≡ true) ↔ (changeOf m n ≤ tolerance * D)
+unfolding agreesOn
+agrees-iff tolerance m n = (leb-true (changeOf m n) (tolerance * D), le-leb (changeOf m n) (tolerance * D))
 
 pub agrees-same : (tolerance : ℕ) (m : Motion) → agreesOn tolerance m m ≡ true
-unfolding agreesOn
-agrees-same tolerance m = le-leb (changeOf m m) (tolerance * D) (rw (no-change m) zero-le)
+agrees-same tolerance m = agrees-iff tolerance m m .1 (rw (no-change m) zero-le)

@@ -1,7 +1,7 @@
 // The stepping formulas on one axis.
-use coefficients::Formula;
 use crate::Axis;
 use crate::Motion;
+use coefficients::Formula;
 use exact::Exact;
 ghost use mathlib.Core.Path.{_≡_};
 ghost use Prim.Native.Nat.{_≤_, _^_};
@@ -58,9 +58,15 @@ pub fn corrected_motion(p: usize, a: Axis, sample: i64) -> Motion
     ensures { λ r. ⌜ r ≡ correctedMotion p a sample ⌝ }
 {
     let samples = a.samples;
-    let position = moved(a.second, coefficients::next_sum(Formula::PositionCorrector, p, sample, samples));
+    let position = moved(
+        a.second,
+        coefficients::next_sum(Formula::PositionCorrector, p, sample, samples),
+    );
     let first = next_first(a.first, sample);
-    let velocity = moved(first, coefficients::next_sum(Formula::VelocityCorrector, p, sample, samples));
+    let velocity = moved(
+        first,
+        coefficients::next_sum(Formula::VelocityCorrector, p, sample, samples),
+    );
     Motion { position, velocity }
 }
 
