@@ -2,14 +2,14 @@
 use mathlib.Core.Path.{_≡_, refl, ap, _∙_}
 use mathlib.Core.Bool.{true}
 use mathlib.Core.List.{List, _∷_}
-use Prim.Native.Nat.{ℕ, _^_, _≤_}
+use Prim.Native.Nat.{ℕ, _≤_}
 use borrow.Author.Tests.{lt-ltb}
 use lib.Dec.{lit<}
 use lib.IntN.{ℤ, natAbs}
 use Rattle.integers.specs.Tests.{joined}
 use Rattle.exact.specs.Numerator.{exactOf}
 use Rattle.exact.specs.Laws.{part-below}
-use Rattle.coefficients.specs.Formulas.{Small, largest}
+use Rattle.coefficients.specs.Formulas.{largest}
 use Rattle.coefficients.proofs.Samples.{cons}
 use Rattle.axis.specs.declared.Motion.{Motion}
 use Rattle.axis.specs.declared.Axis.{Axis}

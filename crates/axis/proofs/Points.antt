@@ -1,12 +1,12 @@
 -- What the formulas say of one another: an axis that took in a sample stands at the corrected point, and an opened one at the point given.
-use mathlib.Core.Path.{_≡_, refl, sym, ap, ap₂, _∙_}
+use mathlib.Core.Path.{_≡_, refl, ap, ap₂, _∙_}
 use mathlib.Core.List.{List, _∷_}
 use Prim.Native.Nat.{ℕ, zero, suc, _-_, _≤_, _<_}
 use native.Mathlib.Omega.{arith}
 use lib.IntN.{ℤ, _+ℤ_, _-ℤ_}
 use Rattle.integers.specs.Tactics.{atom, terms, ring}
 use Rattle.integers.specs.Differences.{at, inFront, byDifferences, same-first, at-taken}
-use Rattle.exact.specs.Numerator.{D, exactOf, numerator}
+use Rattle.exact.specs.Numerator.{D, numerator}
 use Rattle.exact.specs.Laws.{numerator-exactOf, exactOf-numerator}
 use Rattle.coefficients.specs.declared.Formula.{Formula}
 use Rattle.coefficients.specs.declared.Formula.the-variants.{PositionCorrector, VelocityCorrector}

@@ -4,12 +4,12 @@ use mathlib.Core.Logic.{_↔_}
 use mathlib.Core.Bool.{true, and-eq-true-iff}
 use Prim.Native.Nat.{ℕ, _+_, _^_, _≤_, _<_}
 use borrow.Author.Tests.{ltb-true}
-use lib.IntN.{ℤ, _+ℤ_, _-ℤ_}
+use lib.IntN.{ℤ}
 use Rattle.integers.specs.Tests.{_and_, joined}
 use Rattle.integers.specs.Parts.{integers}
 use Rattle.integers.specs.Differences.{at, byDifferences}
 use Rattle.exact.specs.declared.Exact.{Exact}
-use Rattle.exact.specs.Numerator.{D, exactOf, Bounded, between}
+use Rattle.exact.specs.Numerator.{D, Bounded, between}
 use Rattle.exact.specs.Laws.{part-below}
 use Rattle.exact.specs.Bounds.{widen, between-bounded, before-move, before-difference}
 use Rattle.coefficients.specs.declared.Formula.the-variants.{PositionCorrector, VelocityCorrector}
@@ -17,7 +17,7 @@ use Rattle.coefficients.specs.Formulas.{positionCorrector, velocityCorrector, S
 use Rattle.coefficients.proofs.Bounds.{weighted-fits}
 use Rattle.axis.specs.declared.Axis.{Axis}
 use Rattle.axis.specs.declared.Motion.{Motion}
-use Rattle.axis.specs.Formulas.{S1, S2, motionOf, presentMotion, predictedMotion, correctedMotion}
+use Rattle.axis.specs.Formulas.{motionOf, presentMotion, predictedMotion, correctedMotion}
 use Rattle.axis.specs.Estimates.{inRange}
 use Rattle.axis.specs.Holding.{remaindersHold, samplesSmall, emptyZero, placesHold, axisHolds, firstFits, secondFits}
 use Rattle.axis.specs.Ready.{Ready, Placed}

@@ -1,13 +1,11 @@
 -- `axis::holding::axis_holds` meets its contract: a sum outside the early bounds has no present point in range.
-use mathlib.Core.Path.{_≡_, sym, ap, _∙_}
-use mathlib.Core.Bool.{false}
-use Prim.Native.Nat.{_^_}
+use mathlib.Core.Path.{sym, ap, _∙_}
 use Rattle.integers.specs.Tests.{stop, go-on, fails, failed, passed, clash}
 use Rattle.exact.specs.Bounds.{between-bounded}
 use Rattle.axis.specs.Estimates.{inRange}
 use Rattle.axis.specs.Holding.{axisHolds}
 use Rattle.axis.proofs.Places.{small-samples}
-use Rattle.axis.proofs.Sound.{HoldingAxis, holding-axis, remainders, first-within, second-within}
+use Rattle.axis.proofs.Sound.{holding-axis, remainders, first-within, second-within}
 use Rattle.axis.proofs.holding.axis_holds.Statement.{statement}
 use Rattle.axis.proofs.holding.axis_holds.Tie as tie
 
