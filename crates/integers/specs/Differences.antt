@@ -76,7 +76,7 @@ past-taken (suc p) n (x ∷ xs) (suc k) h = past-taken p n xs k (omega arith)
 spread-law : (a : ℤ) (ws : List ℤ) (x : ℕ → ℤ) → bySamples (spread a ws) x ≡ a *ℤ x 0 +ℤ bySamples ws (back x)
 unfolding bySamples spread
 spread-law a [] x = refl
-spread-law a (w ∷ ws) x = rw (spread-law (negℤ w) ws (older x)) (regroup a w (x 0) (x 1) (bySamples ws (back (older x))))
+spread-law a (w ∷ ws) x = ap (λ r. (a +ℤ w) *ℤ x 0 +ℤ r) (spread-law _ ws (older x)) ∙ regroup a w (x 0) (x 1) (bySamples ws (back (older x)))
   where
     regroup : (a w x y r : ℤ) → (a +ℤ w) *ℤ x +ℤ (negℤ w *ℤ y +ℤ r) ≡ a *ℤ x +ℤ (w *ℤ (x -ℤ y) +ℤ r)
     regroup a w x y r = rw (atom 0 a, atom 1 w, atom 2 x, atom 3 y, atom 4 r) (simp terms (ring _ _ refl))
