@@ -21,7 +21,6 @@ use Rattle.session.specs.Numbers.{pointsHold, settingsHold}
 use Rattle.session.specs.Moves.{predictedPoint, correctedPoint, pointInRange}
 use Rattle.session.specs.Holding.{settled, awaiting}
 use Rattle.steps.specs.declared.Start.{Start}
-use Rattle.steps.specs.Answers.{NotZero}
 use Rattle.steps.specs.Opening.{wholePoint}
 use Rattle.steps.specs.Refusals.{sampleRules, faultNumber, openRules, openRefusal, full, predictRules, predictRefusal, agrees, isLast, pointRules, correctRules, correctRefusal, withdrawRules, withdrawRefusal}
 use Rattle.steps.specs.Unrefused.{Openable, Predictable, Correctable}
@@ -54,7 +53,7 @@ neither false b e = (refl, e)
 
 -- ---- samples: what the worst fault says of the two rules
 
-abbrev RulesOn : List Float → Fault → Type 0
+abbrev pub RulesOn : List Float → Fault → Type 0
 RulesOn xs NotANumber = (any isNotANumber xs || any isInfinite xs) ≡ true
 RulesOn xs Infinite = (any isNotANumber xs || any isInfinite xs) ≡ true
 RulesOn xs TooLarge = ((any isNotANumber xs || any isInfinite xs) ≡ false) × (any isTooLarge xs ≡ true)
@@ -67,7 +66,7 @@ module _ (xs : List Float) where
   by-fault TooLarge h = (simp (h .0, h .1), h .2)
   by-fault Nothing h = (simp (h .0, h .1), h .2)
 
-  rules-on : (f : Fault) → faultIn xs ≡ f → RulesOn xs f
+  pub rules-on : (f : Fault) → faultIn xs ≡ f → RulesOn xs f
   rules-on f e = by-fault f (fault-means xs f .0 e)
 
   number-of : (f : Fault) → RulesOn xs f → firstOf (sampleRules xs) ≡ faultNumber f
@@ -124,13 +123,6 @@ module _ (p tolerance limit : ℕ) (start : Start) (floats : List Float) where
         (λ e. let (a, (b, (c, (d, (f, (g, _)))))) = h .0 e in record { points = a; enough = eqb-true (length floats) (3 * p) b; settings = c; range = d; faultless = faultless floats f g }),
         (λ r. let (f, g) = rules-on floats Nothing (r .faultless) in h .1 (r .points, (eq-eqb (length floats) (3 * p) (r .enough), (r .settings, (r .range, (f, (g, tt))))))),
       )
-
-  -- a fault, where no rule before the samples' applies
-  pub open-faulty : (f : Fault) → faultIn floats ≡ f → NotZero (faultNumber f) → pointsHold p ≡ true → eqb (length floats) (3 * p) ≡ true → settingsHold tolerance limit ≡ true → pointInRange (wholePoint start) ≡ true → number ≡ faultNumber f
-  open-faulty NotANumber e n a b c d = open-4 .1 (a, (b, (c, (d, rules-on floats NotANumber e))))
-  open-faulty Infinite e n a b c d = open-4 .1 (a, (b, (c, (d, rules-on floats Infinite e))))
-  open-faulty TooLarge e n a b c d = open-5 .1 (a, (b, (c, (d, rules-on floats TooLarge e))))
-  open-faulty Nothing e n a b c d = absurd (n refl)
 
   pub open-numbers : Among number (0 ∷ 1 ∷ 2 ∷ 3 ∷ 6 ∷ 4 ∷ 5 ∷ [])
   unfolding openRefusal openRules sampleRules
@@ -200,17 +192,6 @@ module _ (s : Session) (a : Sample) where
         (λ e. let (b, (c, (d, (f, (g, _))))) = h .0 e in record { standing = b; faultless = faultless (axesOf a) c d; range = f; more = g }),
         (λ r. let (c, d) = rules-on (axesOf a) Nothing (r .faultless) in h .1 (r .standing, (c, (d, (r .range, (r .more, tt)))))),
       )
-
-  -- the sample's fault, and past it the corrected point's rules
-  pub correct-faulty : (f : Fault) → faultIn (axesOf a) ≡ f → NotZero (faultNumber f) → awaiting s ≡ true → correctRefusal s a ≡ faultNumber f
-  correct-faulty NotANumber e n w = correct-4 .1 (w, rules-on (axesOf a) NotANumber e)
-  correct-faulty Infinite e n w = correct-4 .1 (w, rules-on (axesOf a) Infinite e)
-  correct-faulty TooLarge e n w = correct-5 .1 (w, rules-on (axesOf a) TooLarge e)
-  correct-faulty Nothing e n w = absurd (n refl)
-
-  pub correct-on : awaiting s ≡ true → faultIn (axesOf a) ≡ Nothing → correctRefusal s a ≡ firstOf (pointRules s corrected)
-  unfolding correctRefusal correctRules sampleRules firstOf
-  correct-on w e = let (f, l) = rules-on (axesOf a) Nothing e in simp (w, f, l)
 
   pub correct-numbers : Among (correctRefusal s a) (0 ∷ 7 ∷ 4 ∷ 5 ∷ 6 ∷ 8 ∷ [])
   unfolding correctRefusal correctRules sampleRules pointRules

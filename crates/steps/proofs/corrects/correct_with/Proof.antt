@@ -1,14 +1,13 @@
 -- `steps::corrects::correct_with` meets its contract: the point is in range or not.
 use mathlib.Core.Path.{_≡_, refl, sym, ap, _∙_}
-use mathlib.Core.Bool.{true, false, not, cond, _&&_}
-use Prim.Native.Nat.{ℕ}
+use mathlib.Core.Bool.{false}
 use Rattle.integers.specs.Tests.{firstOf, failed, passed}
 use Rattle.ticks.specs.declared.WholeSample.{WholeSample}
 use Rattle.session.specs.declared.Point.{Point}
 use Rattle.session.specs.declared.Session.{Session}
 use Rattle.session.specs.Moves.{correctedPoint, pointInRange}
 use Rattle.session.proofs.Rules.{waiting}
-use Rattle.steps.specs.Refusals.{agrees, isLast, pointRules}
+use Rattle.steps.specs.Refusals.{pointRules}
 use Rattle.steps.specs.Steps.{correctBy}
 use Rattle.steps.proofs.corrects.correct_with.Statement.{statement}
 use Rattle.steps.proofs.corrects.correct_with.Tie as tie
@@ -17,10 +16,6 @@ module _ (s : Session) (w : WholeSample) (q : Point) (e : q ≡ correctedPoint s
   out-of-range : pointInRange q ≡ false → firstOf (pointRules s (correctedPoint s w)) ≡ 6
   unfolding pointRules firstOf
   out-of-range r = rw (← e, r) refl
-
-  in-range : pointInRange q ≡ true → firstOf (pointRules s (correctedPoint s w)) ≡ cond (not (agrees s q) && isLast s) 8 0
-  unfolding pointRules firstOf
-  in-range r = rw (← e, r) refl
 
 corrected-point-requires : tie.Need-corrected-point-requires
 corrected-point-requires c κs = (waiting (c .args .s) (c .pre .0) .ready, c .pre .1)
@@ -42,8 +37,7 @@ returns-2 : tie.Need-returns-2
 returns-2 c =
     let d = c .before .before .before in
     let a = d .before .args in
-    c .judge .ensures
-    ∙ ap (λ n. correctBy n (a .s) (a .w)) (sym (in-range (a .s) (a .w) (d .corrected-point .result) (d .corrected-point .ensures) (passed (c .before .before .point-in-range .ensures) (c .before .if1 .left))))
+    c .judge .ensures ∙ ap (λ q. correctBy (firstOf (pointRules (a .s) q)) (a .s) (a .w)) (d .corrected-point .ensures)
 
 pub correct-with-spec : {M : Type 1} → statement M
 correct-with-spec = tie.close (tie.spec corrected-point-requires (λ c κs. tt) (λ c κs. tt) returns judge-requires returns-2)

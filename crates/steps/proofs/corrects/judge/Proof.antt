@@ -1,10 +1,12 @@
 -- `steps::corrects::judge` meets its contract: accepted, the last, or again.
 use mathlib.Core.Path.{_≡_, refl, sym, ap, _∙_}
-use mathlib.Core.Bool.{true, false, not, cond, _&&_}
+use mathlib.Core.Bool.{true, false}
 use Prim.Native.Nat.{_+_}
 use borrow.Author.Needs.{needs}
 use borrow.Author.Tests.{le-leb, lt-leb}
+use Rattle.integers.specs.Tests.{firstOf}
 use Rattle.ticks.specs.declared.WholeSample.{WholeSample}
+use Rattle.axis.proofs.Agreement.{size-reports}
 use Rattle.session.specs.declared.Point.{Point}
 use Rattle.session.specs.declared.Session.{Session}
 use Rattle.session.specs.Moves.{correctedPoint, pointInRange, settledAgain, awaitingAt, acceptedAt}
@@ -12,9 +14,9 @@ use Rattle.session.specs.Ready.{PlacedPoint}
 use Rattle.session.proofs.Kept.{corrected-point-placed}
 use Rattle.steps.specs.declared.Correction.the-variants as C
 use Rattle.steps.specs.Answers.{reportedPoint, reportedChange}
-use Rattle.steps.specs.Refusals.{agrees, largestChange, isLast}
+use Rattle.steps.specs.Refusals.{agrees, largestChange, isLast, pointRules}
 use Rattle.steps.specs.Steps.{correctBy}
-use Rattle.steps.proofs.Changes.{largest-small, size-reports}
+use Rattle.steps.proofs.Changes.{largest-within}
 use Rattle.steps.proofs.corrects.judge.Statement.{statement}
 use Rattle.steps.proofs.corrects.judge.Tie as tie
 
@@ -22,15 +24,18 @@ module _ (s : Session) (w : WholeSample) (q : Point) (e : q ≡ correctedPoint s
   placed : pointInRange q ≡ true → PlacedPoint q
   placed t = rw e (corrected-point-placed s w (sym (ap pointInRange e) ∙ t))
 
-  accepted : agrees s q ≡ true → correctBy (cond (not (agrees s q) && isLast s) 8 0) s w ≡ record { session = acceptedAt s w; answer = C.Accepted (reportedPoint q) }
-  accepted a = rw (a, ← e, a) refl
+  module _ (r : pointInRange q ≡ true) where
+    accepted : agrees s q ≡ true → correctBy (firstOf (pointRules s q)) s w ≡ record { session = acceptedAt s w; answer = C.Accepted (reportedPoint q) }
+    unfolding firstOf pointRules
+    accepted a = rw (r, a, ← e, a) refl
 
-  ended : agrees s q ≡ false → isLast s ≡ true → correctBy (cond (not (agrees s q) && isLast s) 8 0) s w ≡ record { session = settledAgain s; answer = C.Refused 8 }
-  ended a l = rw (a, l) refl
+    ended : agrees s q ≡ false → isLast s ≡ true → correctBy (firstOf (pointRules s q)) s w ≡ record { session = settledAgain s; answer = C.Refused 8 }
+    unfolding firstOf pointRules
+    ended a l = rw (r, a, l) refl
 
-  again : agrees s q ≡ false → isLast s ≡ false
-      → correctBy (cond (not (agrees s q) && isLast s) 8 0) s w ≡ record { session = awaitingAt s (s .corrections + 1) q; answer = C.Again (reportedPoint q) (reportedChange (largestChange s q)) }
-  again a l = rw (a, l, ← e, a) refl
+    again : agrees s q ≡ false → isLast s ≡ false → correctBy (firstOf (pointRules s q)) s w ≡ record { session = awaitingAt s (s .corrections + 1) q; answer = C.Again (reportedPoint q) (reportedChange (largestChange s q)) }
+    unfolding firstOf pointRules
+    again a l = rw (r, a, l, ← e, a) refl
 
 is-agreed-requires : tie.Need-is-agreed-requires
 is-agreed-requires c κs = let d = c .before in let a = d .args in (d .pre .0, placed (a .s) (a .w) (a .q) (d .pre .1 .1 .0) (d .pre .1 .1 .1))
@@ -40,7 +45,7 @@ returns c =
     let d = c .before .before .before .before in
     let a = d .args in
     rw (c .accept .ensures, c .before .before .before .report-point .ensures)
-    (sym (accepted (a .s) (a .w) (a .q) (d .pre .1 .1 .0) (sym (c .before .before .is-agreed .ensures) ∙ c .before .if1 .taken)))
+    (sym (accepted (a .s) (a .w) (a .q) (d .pre .1 .1 .0) (d .pre .1 .1 .1) (sym (c .before .before .is-agreed .ensures) ∙ c .before .if1 .taken)))
 
 returns-2 : tie.Need-returns-2
 unfolding isLast
@@ -49,7 +54,7 @@ returns-2 c =
     let d = b .before .before .before in
     let a = d .args in
     rw (c .settle .ensures)
-    (sym (ended (a .s) (a .w) (a .q) (d .pre .1 .1 .0) (sym (b .before .is-agreed .ensures) ∙ b .if1 .left) (le-leb _ _ (c .before .if2 .taken))))
+    (sym (ended (a .s) (a .w) (a .q) (d .pre .1 .1 .0) (d .pre .1 .1 .1) (sym (b .before .is-agreed .ensures) ∙ b .if1 .left) (le-leb _ _ (c .before .if2 .taken))))
 
 largest-change-requires : tie.Need-largest-change-requires
 largest-change-requires c κs =
@@ -62,7 +67,7 @@ reported-requires c κs =
     let d = c .before .before .before .before .before .before .before in
     let a = d .args in
     rw (c .largest-change .ensures)
-    (size-reports (largestChange (a .s) (a .q)) (largest-small (a .s) (a .q) (d .pre .0) (placed (a .s) (a .w) (a .q) (d .pre .1 .1 .0) (d .pre .1 .1 .1))))
+    (size-reports (largestChange (a .s) (a .q)) (largest-within (a .s) (a .q) (d .pre .0) (placed (a .s) (a .w) (a .q) (d .pre .1 .1 .0) (d .pre .1 .1 .1))))
 
 returns-3 : tie.Need-returns-3
 unfolding isLast reportedChange
@@ -71,7 +76,7 @@ returns-3 c =
     let d = b .before .before .before in
     let a = d .args in
     rw (c .await-at .ensures, b .before .before .report-point .ensures, c .before .reported .ensures, c .before .before .largest-change .ensures)
-    (sym (again (a .s) (a .w) (a .q) (d .pre .1 .1 .0) (sym (b .before .is-agreed .ensures) ∙ b .if1 .left) (lt-leb _ _ (c .before .before .before .if2 .left))))
+    (sym (again (a .s) (a .w) (a .q) (d .pre .1 .1 .0) (d .pre .1 .1 .1) (sym (b .before .is-agreed .ensures) ∙ b .if1 .left) (lt-leb _ _ (c .before .before .before .if2 .left))))
 
 pub judge-spec : {M : Type 1} → statement M
 judge-spec =

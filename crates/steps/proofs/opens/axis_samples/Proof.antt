@@ -1,75 +1,49 @@
+-- `steps::opens::axis_samples` meets its contract: after i turns the first i places are filled.
+use mathlib.Core.Path.{_≡_, refl, sym, ap, _∙_}
+use Prim.Native.Nat.{_≤_, _-_}
+use native.Mathlib.Numerals.{add-one}
+use native.Mathlib.Omega.{arith}
+use borrow.Author.Needs.{needs, sfits-of}
+use lib.ListN.{length, set}
+use mir.Facts.{toZ-ofZ}
+use Rattle.integers.specs.Differences.{at}
+use Rattle.ticks.specs.Round.{ticksIn}
+use Rattle.axis.specs.Formulas.{places}
+use Rattle.axis.proofs.Places.{placed-next}
+use Rattle.steps.specs.Opening.{axisSamples}
+use Rattle.steps.proofs.Given.{length-samples, at-samples}
 use Rattle.steps.proofs.opens.axis_samples.Statement.{statement}
 use Rattle.steps.proofs.opens.axis_samples.Tie as tie
-use Rattle.steps.proofs.opens.axis_samples.Reads as reads
-use Rattle.steps.proofs.opens.axis_samples.Lts as lts
-use Rattle.ticks.proofs.round_to_tick.Reads as round-to-tick-reads
-use Rattle.ticks.proofs.ticks_in.Reads as ticks-in-reads
 
 abbrev Inv-loop : tie.InvT-loop
-Inv-loop p k floats out₀ i₀ out i = ?
+Inv-loop p k floats out₀ i₀ out i = (i ≤ p) × (out ≡ places i (axisSamples p k floats))
 
 abbrev μ-loop : tie.MeasureT-loop
-μ-loop p k floats out₀ i₀ out i = ?
+μ-loop p k floats out₀ i₀ out i = p - i
 
--- src/opens.rt:51:5
 loop-holds : tie.Need-loop-holds Inv-loop μ-loop
-loop-holds c = ?
+loop-holds c = (search needs, refl)
 
--- src/opens.rt:52:23
-sub-at : tie.Need-sub-at Inv-loop μ-loop
-sub-at c = ?
-
--- src/opens.rt:52:23
-sub-at-2 : tie.Need-sub-at-2 Inv-loop μ-loop
-sub-at-2 c = ?
-
--- src/opens.rt:52:18
-mul-at : tie.Need-mul-at Inv-loop μ-loop
-mul-at c = ?
-
--- src/opens.rt:52:18
-add-at : tie.Need-add-at Inv-loop μ-loop
-add-at c = ?
-
--- src/opens.rt:53:55
-mul-round-to-tick : tie.Need-mul-round-to-tick Inv-loop μ-loop
-mul-round-to-tick c = ?
-
--- src/opens.rt:53:55
-shared-slice-read-round-to-tick : tie.Need-shared-slice-read-round-to-tick Inv-loop μ-loop
-shared-slice-read-round-to-tick c = ?
-
--- src/opens.rt:53:34
-round-to-tick-requires : tie.Need-round-to-tick-requires Inv-loop μ-loop
-round-to-tick-requires c κs = ?
-
--- src/opens.rt:53:18
-ticks-in-requires : tie.Need-ticks-in-requires Inv-loop μ-loop
-ticks-in-requires c κs = ?
-
--- src/opens.rt:53:9
-mul-out : tie.Need-mul-out Inv-loop μ-loop
-mul-out c = ?
-
--- src/opens.rt:53:9
-array-set-from-out : tie.Need-array-set-from-out Inv-loop μ-loop
-array-set-from-out c = ?
-
--- src/opens.rt:54:9
-add-i : tie.Need-add-i Inv-loop μ-loop
-add-i c = ?
-
--- src/opens.rt:51:5
-loop-less : tie.Need-loop-less Inv-loop μ-loop
-loop-less c = ?
-
--- src/opens.rt:51:5
 loop-again : tie.Need-loop-again Inv-loop μ-loop
-loop-again c = ?
+loop-again c =
+    let l = c .before .before .before .before .loop in
+    let a = c .before .before .before .before .before .before .args in
+    let i = l .i in
+    let ys = axisSamples (a .p) (a .k) (a .floats .now) in
+    let n : length ys ≡ a .p = length-samples (a .p) (a .k) (a .floats .now) in
+    let v = toZ-ofZ (sfits-of (c .ticks-in .ok)) ∙ c .ticks-in .ensures ∙ ap ticksIn (c .before .round-to-tick .ensures) ∙ sym (at-samples (a .p) (a .k) i (a .floats .now) _ (omega arith) (omega arith)) in (
+      search needs,
+      ap (set (l .out) i) v
+          ∙ ap (λ out. set out i (at ys i)) (l .inv .1)
+          ∙ placed-next i ys (omega arith) (omega arith)
+          ∙ ap (λ n. places n ys) (sym (add-one i)),
+    )
 
--- src/opens.rt:43:1
 returns : tie.Need-returns Inv-loop μ-loop
-returns c = ?
+returns c =
+    let a = c .before .before .before .args in
+    let e : c .before .loop .i ≡ a .p = omega arith in
+    c .before .loop .inv .1 ∙ ap (λ n. places n (axisSamples (a .p) (a .k) (a .floats .now))) e
 
 pub axis-samples-spec : {M : Type 1} → statement M
 axis-samples-spec =
@@ -78,17 +52,17 @@ axis-samples-spec =
     Inv-loop
     μ-loop
     loop-holds
-    sub-at
-    sub-at-2
-    mul-at
-    add-at
-    mul-round-to-tick
-    shared-slice-read-round-to-tick
-    round-to-tick-requires
-    ticks-in-requires
-    mul-out
-    array-set-from-out
-    add-i
-    loop-less
+    (λ c. search needs)
+    (λ c. search needs)
+    (λ c. search needs)
+    (λ c. search needs)
+    (λ c. search needs)
+    (λ c. search needs)
+    (λ c κs. tt)
+    (λ c κs. tt)
+    (λ c. search needs)
+    (λ c. search needs)
+    (λ c. search needs)
+    (λ c. omega arith)
     loop-again
     returns)

@@ -21,11 +21,11 @@ returns c =
     let e = d .before .before .before in
     let s = e .before .before .before .args .start in
     let fx : SFits w64 (s .x) = search needs in
+    let gx : SFits w64 (s .vx) = search (needs, e .before .struct-told2 .given) in
     let fy : SFits w64 (s .y) = search needs in
+    let gy : SFits w64 (s .vy) = search (needs, d .before .struct-told4 .given) in
     let fz : SFits w64 (s .z) = search needs in
-    let gx : SFits w64 (s .vx) = search needs in
-    let gy : SFits w64 (s .vy) = search needs in
-    let gz : SFits w64 (s .vz) = search needs in
+    let gz : SFits w64 (s .vz) = search (needs, c .before .struct-told6 .given) in
     λ i. record { x = from-bits (e .at-whole .ensures) fx gx i; y = from-bits (d .at-whole2 .ensures) fy gy i; z = from-bits (c .at-whole3 .ensures) fz gz i }
 
 pub start-point-spec : {M : Type 1} → statement M
