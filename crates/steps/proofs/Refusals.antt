@@ -4,6 +4,7 @@ use mathlib.Core.Logic.{_↔_, _⊎_, inl, inr}
 use mathlib.Core.Bool.{Bool, true, false, not, _||_, true≢false}
 use mathlib.Core.List.{List, [], _∷_}
 use Prim.Native.Nat.{ℕ, _*_}
+use native.Mathlib.Omega.{arith}
 use borrow.Author.Tests.{eqb-true, eq-eqb}
 use lib.Dec.{eqb}
 use lib.Ieee.{Float}
@@ -58,6 +59,12 @@ RulesOn xs NotANumber = (any isNotANumber xs || any isInfinite xs) ≡ true
 RulesOn xs Infinite = (any isNotANumber xs || any isInfinite xs) ≡ true
 RulesOn xs TooLarge = ((any isNotANumber xs || any isInfinite xs) ≡ false) × (any isTooLarge xs ≡ true)
 RulesOn xs Nothing = ((any isNotANumber xs || any isInfinite xs) ≡ false) × (any isTooLarge xs ≡ false)
+
+pub no-number : (f : Fault) → faultNumber f ≡ 0 → f ≡ Nothing
+no-number Nothing e = refl
+no-number NotANumber e = absurd (omega arith)
+no-number Infinite e = absurd (omega arith)
+no-number TooLarge e = absurd (omega arith)
 
 module _ (xs : List Float) where
   by-fault : (f : Fault) → FaultMeans xs f → RulesOn xs f

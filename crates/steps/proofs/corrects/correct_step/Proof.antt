@@ -1,13 +1,12 @@
 -- `steps::corrects::correct_step` meets its contract: the refusals in order.
 use mathlib.Core.Path.{_≡_, refl, sym, ap, _∙_}
 use mathlib.Core.Bool.{true}
-use native.Mathlib.Omega.{arith}
 use Rattle.integers.specs.Tests.{firstOf, failed, passed}
 use Rattle.ticks.specs.declared.Fault.{Fault}
 use Rattle.ticks.specs.declared.Fault.the-variants.{Nothing, NotANumber, Infinite, TooLarge}
 use Rattle.ticks.specs.declared.Sample.{Sample}
 use Rattle.ticks.specs.declared.RoundedSample.{RoundedSample}
-use Rattle.ticks.specs.Samples.{faultIn, axesOf, wholeOf, sampleOf, WithinLimit}
+use Rattle.ticks.specs.Samples.{faultIn, axesOf, wholeOf}
 use Rattle.ticks.proofs.Faults.{whole-within}
 use Rattle.session.specs.declared.Session.{Session}
 use Rattle.session.specs.Moves.{correctedPoint}
@@ -16,7 +15,7 @@ use Rattle.steps.specs.declared.Correction.the-variants as C
 use Rattle.steps.specs.Answers.{NotZero}
 use Rattle.steps.specs.Refusals.{faultNumber, sampleRules, pointRules, correctRules, correctRefusal}
 use Rattle.steps.specs.Steps.{correctBy, correctOf}
-use Rattle.steps.proofs.Refusals.{rules-on, correct-7, correct-4, correct-5}
+use Rattle.steps.proofs.Refusals.{rules-on, no-number, correct-7, correct-4, correct-5}
 use Rattle.steps.proofs.corrects.correct_step.Statement.{statement}
 use Rattle.steps.proofs.corrects.correct_step.Tie as tie
 
@@ -32,12 +31,6 @@ module _ (s : Session) (a : Sample) (w : awaiting s ≡ true) where
   by-point : faultIn (axesOf a) ≡ Nothing → correctRefusal s a ≡ firstOf (pointRules s (correctedPoint s (wholeOf a)))
   unfolding correctRefusal correctRules sampleRules firstOf
   by-point e = let (f, l) = rules-on (axesOf a) Nothing e in simp (w, f, l)
-
-none : (f : Fault) → faultNumber f ≡ 0 → f ≡ Nothing
-none Nothing e = refl
-none NotANumber e = absurd (omega (arith, e))
-none Infinite e = absurd (omega (arith, e))
-none TooLarge e = absurd (omega (arith, e))
 
 returns : tie.Need-returns
 unfolding correctOf
@@ -70,7 +63,7 @@ returns-3 c =
     let r = c .before .before .before .before .round-sample in
     let d = c .before .before .before .before .before in
     let a = d .before .before .args in
-    let e : faultIn (axesOf (a .a)) ≡ Nothing = sym (ap (λ (x : RoundedSample). x .fault) (r .ensures)) ∙ none (r .result .fault) (sym (n .ensures) ∙ c .before .before .if2 .left) in
+    let e : faultIn (axesOf (a .a)) ≡ Nothing = sym (ap (λ (x : RoundedSample). x .fault) (r .ensures)) ∙ no-number (r .result .fault) (sym (n .ensures) ∙ c .before .before .if2 .left) in
     c .correct-with .ensures
     ∙ ap (λ w. correctBy (firstOf (pointRules (a .s) (correctedPoint (a .s) w))) (a .s) w) (ap (λ (x : RoundedSample). x .ticks) (r .ensures))
     ∙ ap (λ m. correctBy m (a .s) (wholeOf (a .a))) (sym (by-point (a .s) (a .a) (passed (d .before .is-awaiting .ensures) (d .if1 .left)) e))
