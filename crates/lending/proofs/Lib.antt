@@ -1,0 +1,6 @@
+pub mod Data
+pub mod Locals
+pub mod Arguments
+pub mod Lent
+pub mod Contracts
+pub mod Call
