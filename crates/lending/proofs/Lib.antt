@@ -4,3 +4,5 @@ pub mod Arguments
 pub mod Lent
 pub mod Contracts
 pub mod Call
+pub mod Owned
+pub mod Owner
