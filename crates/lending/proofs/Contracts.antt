@@ -31,23 +31,12 @@ use Rattle.lending.proofs.Data.{Struct, Enum, Outcome, valOf, both}
 use Rattle.lending.proofs.Arguments.{Argument, in-calls, in-steps, downs}
 use Rattle.lending.proofs.Lent.{Takes, the-record, no-record, beside}
 
-module _ {S : Struct} {K : Enum} (G : Outcome S K) {n : ℕ} (args : List (Argument n)) where
-  -- ---- the signatures
-  abbrev taken : Takes → List (Slot n)
+-- ---- what a step takes of the record S and the arguments: its parameters, and the values and machine values that it is passed
+module _ (S : Struct) {n : ℕ} (args : List (Argument n)) where
+  abbrev pub taken : Takes → List (Slot n)
   taken the-record = plain (λ _. row (S .type)) ∷ in-steps args
   taken no-record = in-steps args
 
-  -- a step, and a function that lends its own copy, which takes the record as a step does
-  abbrev pub Stepped : Takes → Ended
-  Stepped t = record { signature = record { lifetimes = n; outlives = []; params = taken t; result = plain (λ _. row (both G)) }; kept = all yes (taken t) }
-
-  abbrev pub Called : Ended
-  Called = record {
-    signature = record { lifetimes = suc n; outlives = []; params = mutRefTo (0 ∷ []) tt (plain (λ _. row (S .type))) ∷ in-calls args; result = plain (λ _. E.row (K .type)) };
-    kept = (yes, all yes (in-calls args));
-  }
-
-  -- ---- what a step is passed, of the record h and the arguments
   abbrev pub passing : (t : Takes) (κs : Lfts n) → S .type .D → Denots (typesAt (in-steps args) κs) → Denots (typesAt (taken t) κs)
   passing the-record κs h a = (h, a)
   passing no-record κs h a = a
@@ -65,21 +54,44 @@ module _ {S : Struct} {K : Enum} (G : Outcome S K) {n : ℕ} (args : List (Argum
   passing-owns 𝓤 H A the-record κs h a vss = id⊢ 𝓤 _
   passing-owns 𝓤 H A no-record κs h a vss = snd∗ 𝓤 (sem 𝓤 H A (row (S .type) .own h (valOf (S .facts) h ∷ []))) _
 
-  -- ---- the contracts: nothing is required. A step gives F of what it is passed; the call leaves the record of that and returns its answer; an owner gives what the step would
-  abbrev pub Rule : Takes → Type 0
-  Rule t = (κs : Lfts n) → Denots (typesAt (taken t) κs) → G .D
+-- ---- what a call is made of: the record, the answer, what the step gives, the other arguments over so many lifetimes, whether the step takes the record, and the rule that its result follows
+pub record Plan : Type 2 where
+  pub lent : Struct
+  pub answer : Enum
+  pub outcome : Outcome lent answer
+  pub lifetimes : ℕ
+  pub args : List (Argument lifetimes)
+  pub takes : Takes
+  pub rule : (κs : Lfts lifetimes) → Denots (typesAt (taken lent args takes) κs) → outcome .D
 
-  abbrev pub of-step : (t : Takes) → Rule t → {M : Type 1} (𝓤 : URA M) → Clauses 𝓤 (Stepped t)
-  of-step t F 𝓤 κs a = record { ghost = Unit {0}; requires = λ _. emp 𝓤; ensures = λ _ r e. fact 𝓤 (r ≡ F κs a) }
+-- ---- the signatures and contracts. Nothing is required in any
+module _ (p : Plan) where
+  -- the step gives what the rule says
+  abbrev pub Step : Ended
+  Step = record { signature = record { lifetimes = p .lifetimes; outlives = []; params = taken (p .lent) (p .args) (p .takes); result = plain (λ _. row (both (p .outcome))) }; kept = all yes (taken (p .lent) (p .args) (p .takes)) }
 
-  abbrev pub given : (t : Takes) → Rule t → (κs : Lfts (suc n)) → S .type .D → Denots (typesAt (in-calls args) κs) → G .D
-  given t F κs h a = F (κs .1) (passing t (κs .1) h (downs args κs a))
+  abbrev pub of-step : {M : Type 1} (𝓤 : URA M) → Clauses 𝓤 Step
+  of-step 𝓤 κs a = record { ghost = Unit {0}; requires = λ _. emp 𝓤; ensures = λ _ r e. fact 𝓤 (r ≡ p .rule κs a) }
 
-  abbrev pub of-call : (t : Takes) → Rule t → {M : Type 1} (𝓤 : URA M) → Clauses 𝓤 Called
-  of-call t F 𝓤 κs a = record { ghost = Unit {0}; requires = λ _. emp 𝓤; ensures = λ _ r e. fact 𝓤 ((e .0 .now ≡ G .next (given t F κs (a .0 .now) (a .1))) × (r ≡ G .answer (given t F κs (a .0 .now) (a .1)))) }
+  -- the call leaves the record of that, and returns its answer
+  abbrev pub Call : Ended
+  Call = record {
+    signature = record { lifetimes = suc (p .lifetimes); outlives = []; params = mutRefTo (0 ∷ []) tt (plain (λ _. row (p .lent .type))) ∷ in-calls (p .args); result = plain (λ _. E.row (p .answer .type)) };
+    kept = (yes, all yes (in-calls (p .args)));
+  }
 
-  abbrev pub owning : (t : Takes) → Rule t → Rule the-record
-  owning t F κs a = F κs (passing t κs (a .0) (a .1))
+  abbrev pub given : (κs : Lfts (suc (p .lifetimes))) → p .lent .type .D → Denots (typesAt (in-calls (p .args)) κs) → p .outcome .D
+  given κs h a = p .rule (κs .1) (passing (p .lent) (p .args) (p .takes) (κs .1) h (downs (p .args) κs a))
+
+  abbrev pub of-call : {M : Type 1} (𝓤 : URA M) → Clauses 𝓤 Call
+  of-call 𝓤 κs a = record { ghost = Unit {0}; requires = λ _. emp 𝓤; ensures = λ _ r e. fact 𝓤 ((e .0 .now ≡ p .outcome .next (given κs (a .0 .now) (a .1))) × (r ≡ p .outcome .answer (given κs (a .0 .now) (a .1)))) }
+
+  -- and a function that owns the record and lends a copy of it to the call gives what the step would
+  abbrev pub Owner : Ended
+  Owner = record { signature = record { lifetimes = p .lifetimes; outlives = []; params = taken (p .lent) (p .args) the-record; result = plain (λ _. row (both (p .outcome))) }; kept = all yes (taken (p .lent) (p .args) the-record) }
+
+  abbrev pub of-owner : {M : Type 1} (𝓤 : URA M) → Clauses 𝓤 Owner
+  of-owner 𝓤 κs a = record { ghost = Unit {0}; requires = λ _. emp 𝓤; ensures = λ _ r e. fact 𝓤 (r ≡ p .rule κs (passing (p .lent) (p .args) (p .takes) κs (a .0) (a .1))) }
 
 -- ---- a walk of the function f, which calls g, becomes the theorem about the routine that f is
 module _ {M : Type 1} (𝓤 : URA M) (H : Heap 𝓤) (𝓜 : Model 𝓤 H) (𝓖 : GhostRules 𝓤 H) (𝓡 : Running 𝓤 H 𝓜)
