@@ -28,8 +28,8 @@ use denote.Exit.{yes}
 use denote.Steps.{nothing}
 use denote.Struct.Declared.{row}
 use denote.Enum.Declared as E
-use denote.Triple.End.{Fins, all}
-use denote.Triple.Clauses.{closing, ensured, lasts}
+use denote.Triple.End.{all}
+use denote.Triple.Clauses.{Clauses, Lasts, atExit, closing, ensured, lasts}
 use denote.Triple.Entry.{onEntry}
 use denote.Triple.Statement.{Contract, Triple}
 use denote.Triple.Spec.{tripleOf}
@@ -38,7 +38,7 @@ use Rattle.lending.proofs.Data.{Struct, Enum, Outcome, valOf, both}
 use Rattle.lending.proofs.Arguments.{Knowns, tys, spells, all-tell, dropped, lasts-of, fits, passed, vals-are, nothing-had, all-go, in-calls, call-knowns, downs, vals-down, flat-down, owns-down}
 use Rattle.lending.proofs.Locals.{Passed, vals}
 use Rattle.lending.proofs.Lent.{locals, body, beside, lent, left}
-use Rattle.lending.proofs.Contracts.{passing, passing-vals, passing-flat, passing-owns, Plan, Step, of-step, Call, given, of-call, proved}
+use Rattle.lending.proofs.Contracts.{passing, passing-vals, passing-flat, passing-owns, Plan, Step, of-step, Call, given, proved}
 
 module _ (p : Plan) where
   abbrev S : Struct
@@ -74,7 +74,16 @@ module _ (p : Plan) where
     abbrev the-step : Contract 𝓤
     the-step = tripleOf 𝓤 H A (Step p .signature) (closing 𝓤 H A (Step p) (of-step p 𝓤))
 
-    module _ (κs : Lfts (suc n)) (qs : Shares (suc n)) (a : Denots (typesAt (Call p .signature .params) κs)) where
+    -- the last values at exit where the step gives r: the next record, and nothing of the arguments
+    abbrev ws : (κs : Lfts (suc n)) (a : Denots (typesAt (Call p .signature .params) κs)) → G .D → Lasts (Call p) κs a
+    ws κs a r = (G .next r, lasts-of ss ls κs (a .1))
+
+    -- what the call's contract c ensures holds of the record and the answer that the step gives
+    abbrev Follows : Clauses 𝓤 (Call p) → Type 1
+    Follows c = (κs : Lfts (suc n)) (a : Denots (typesAt (Call p .signature .params) κs)) (gh : c κs a .ghost)
+        → ent 𝓤 (emp 𝓤) (c κs a .ensures gh (G .answer (given p κs (a .0 .now) (a .1))) (atExit (Call p) κs a (ws κs a (given p κs (a .0 .now) (a .1)))))
+
+    module _ (c : Clauses 𝓤 (Call p)) (follows : Follows c) (κs : Lfts (suc n)) (qs : Shares (suc n)) (a : Denots (typesAt (Call p .signature .params) κs)) (gh : c κs a .ghost) where
       abbrev h : S .type .D
       h = a .0 .now
 
@@ -94,8 +103,8 @@ module _ (p : Plan) where
       abbrev x : the-step .Ghost
       x = ((κs .1, qs .1, tt, passing S (p .args) (p .takes) (κs .1) h (downs (p .args) κs (a .1)), passing-vals S (p .args) (p .takes) (κs .1) h (vals-down (p .args) κs vss)), tt)
 
-      abbrev y : walkOf 𝓤 H A (Call p) stayed (of-call p 𝓤) .Ghost
-      y = ((κs, qs, tt, a, (ptr-vals (a .0), vss)), tt)
+      abbrev y : walkOf 𝓤 H A (Call p) stayed c .Ghost
+      y = ((κs, qs, tt, a, (ptr-vals (a .0), vss)), gh)
 
       -- the copy of the record and the arguments are what the step asks
       asks : ent 𝓤 (sep 𝓤 (sem 𝓤 H A (row (S .type) .own h (valOf (S .facts) h ∷ []))) P) (the-step .pre x)
@@ -112,17 +121,17 @@ module _ (p : Plan) where
           qed W (later (some (λ (r : G .D). (raw Toks ⊛ ‵ (row (both G) .own r (v ∷ []))) ⊛ raw (ensured 𝓤 H A (Step p) (of-step p 𝓤) (κs .1) (x .0 .3) tt r))) ∷ []) ∵ updating ! $ await ! tt $ pick ! (λ r. split ! $ move ! (1 ∷ []) $
           use1 W (raw (fact 𝓤 (Φ r))) (exE 𝓤 _ (λ ws. snd∗ 𝓤 (sem 𝓤 H A (lasts (Step p) (κs .1) (x .0 .3) ws)) (fact 𝓤 (Φ r)))) $ move ! (1 ∷ []) $ split ! $ at-once ! $ show ! (Left v) r $ move ! (1 ∷ 2 ∷ 0 ∷ []) $ done !)
 
-      -- the last values at exit: the record's, and nothing of the arguments
-      abbrev ws : G .D → Fins κs (Call p .signature .params) (Call p .kept) a
-      ws r = (G .next r, lasts-of ss ls κs (a .1))
-
-      exits : (r : G .D) → Φ r → ent 𝓤 (⋆ 𝓤 H A (left G (κs .0) (qs .0) (a .0 .ptr .0) (a .0 .ptr .1) (a .0 .name) Toks r)) (walkOf 𝓤 H A (Call p) stayed (of-call p 𝓤) .post y (valOf (K .facts) (G .answer r)))
+      exits : (r : G .D) → Φ r → ent 𝓤 (⋆ 𝓤 H A (left G (κs .0) (qs .0) (a .0 .ptr .0) (a .0 .ptr .1) (a .0 .name) Toks r)) (walkOf 𝓤 H A (Call p) stayed c .post y (valOf (K .facts) (G .answer r)))
       exits r e =
           qed W (left G (κs .0) (qs .0) (a .0 .ptr .0) (a .0 .ptr .1) (a .0 .name) Toks r) ∵
-          suffices ! _ (ends-at 𝓤 H A (Call p) stayed (of-call p 𝓤) W y (valOf (K .facts) (G .answer r)) (G .answer r) (ws r) (tt, fits ss κs (a .1) (ws r .1))) $ says ! (ap (G .next) e, ap (G .answer) e) $ move ! (2 ∷ 3 ∷ []) $ join ! $
-          -- [the tokens; obs; the borrow; the answer]
-          feqI ! (List Val) (ptr-vals (a .0)) (ptr-vals (a .0)) refl $ move ! (0 ∷ 2 ∷ 3 ∷ []) $ fjoin3 ! $
-          use0 W (‵ (hasOf κs ss (all yes ss) (dropped ss) (a .1) (ws r .1) vss)) (nothing-had 𝓤 H A W ss κs (a .1) (ws r .1) vss) $ move ! (1 ∷ 0 ∷ []) $ fjoin ! $ move ! (1 ∷ 0 ∷ 2 ∷ []) $ done !
+          suffices ! _ (ends-at 𝓤 H A (Call p) stayed c W y (valOf (K .facts) (G .answer r)) (G .answer r) (ws κs a r) (tt, fits ss κs (a .1) (ws κs a r .1))) $
+          use0 W (raw (Clause r)) (subst (λ (r′ : G .D). ent 𝓤 (emp 𝓤) (Clause r′)) (sym e) (follows κs a gh)) $ move ! (3 ∷ 4 ∷ []) $ join ! $
+          -- [the tokens; the clause; obs; the borrow; the answer]
+          feqI ! (List Val) (ptr-vals (a .0)) (ptr-vals (a .0)) refl $ move ! (0 ∷ 3 ∷ 4 ∷ []) $ fjoin3 ! $
+          use0 W (‵ (hasOf κs ss (all yes ss) (dropped ss) (a .1) (ws κs a r .1) vss)) (nothing-had 𝓤 H A W ss κs (a .1) (ws κs a r .1) vss) $ move ! (1 ∷ 0 ∷ []) $ fjoin ! $ move ! (1 ∷ 0 ∷ 3 ∷ []) $ group ! 3 $ frame ! $ done !
+        where
+          Clause : G .D → SProp 𝓤
+          Clause r′ = c κs a .ensures gh (G .answer r′) (atExit (Call p) κs a (ws κs a r′))
 
       module _ (are : Are (typesAt ss κs) (Ises (typesAt ss κs)) (a .1) vss) (𝓣 : Tables 𝓤 H) (g : Name) (known : Triple 𝓤 (𝓣 .C g) the-step) where
         abbrev ps : Passed τs
@@ -133,11 +142,11 @@ module _ (p : Plan) where
 
         -- the call runs from what the types own, with the reference and the arguments vs
         abbrev Runs : List Val → Type 1
-        Runs vs = ent 𝓤 (sep 𝓤 (onEntry 𝓤 H A (Call p .signature) κs qs a (ptr-vals (a .0), vss)) (emp 𝓤)) (WpFn 𝓤 H (𝓣 .C) (𝓣 .Λ) (code g) (vptr (a .0 .ptr .0) (a .0 .ptr .1) ∷ vs) (walkOf 𝓤 H A (Call p) stayed (of-call p 𝓤) .post y))
+        Runs vs = ent 𝓤 (sep 𝓤 (onEntry 𝓤 H A (Call p .signature) κs qs a (ptr-vals (a .0), vss)) (c κs a .requires gh)) (WpFn 𝓤 H (𝓣 .C) (𝓣 .Λ) (code g) (vptr (a .0 .ptr .0) (a .0 .ptr .1) ∷ vs) (walkOf 𝓤 H A (Call p) stayed c .post y))
 
         runs : Runs (vals τs ps)
         runs =
-            qed W (((‵ (flft (κs .0) (qs .0)) ⊛ raw Toks) ⊛ ‵ (owns (typesAt (Call p .signature .params) κs) a (ptr-vals (a .0), vss))) ∷ ‵ ftrue ∷ []) ∵
+            qed W (((‵ (flft (κs .0) (qs .0)) ⊛ raw Toks) ⊛ ‵ (owns (typesAt (Call p .signature .params) κs) a (ptr-vals (a .0), vss))) ∷ raw (c κs a .requires gh) ∷ []) ∵
             split ! $ split ! $ move ! (2 ∷ []) $ fsplit ! $ fsplit3 ! $ drop ! $ move ! (2 ∷ 4 ∷ []) $ use2 W (raw P) (id⊢ 𝓤 _) $ keep ! (1 ∷ 2 ∷ 3 ∷ 0 ∷ []) $
             enter ! (𝓣 .C) (𝓣 .Λ) (code g) (vptr (a .0 .ptr .0) (a .0 .ptr .1) ∷ vals τs ps) _ $
             lent G τs 𝓤 H A W (𝓣 .C) (𝓣 .Λ) (fmOf 𝓤 H (W .laws) 𝓣) ps g (κs .0) (qs .0) (a .0 .ptr .0) (a .0 .ptr .1) (a .0 .name) h P Toks Φ _ _ _ (p .takes) asks
@@ -147,11 +156,12 @@ module _ (p : Plan) where
         walk : Runs (flat (typesAt ss κs) vss)
         walk = subst Runs values runs
 
-  -- the call g meets its contract, where the step does
-  pub call-spec : {M : Type 1} (𝓤 : URA M) (H : Heap 𝓤) (𝓜 : Model 𝓤 H) (𝓖 : GhostRules 𝓤 H) (𝓡 : Running 𝓤 H 𝓜) (env : Routines) (key g : Name) → Closed 𝓤 H (tables 𝓤 H 𝓜 𝓡 env .C) (tables 𝓤 H 𝓜 𝓡 env .Λ) key (code g)
-      → (r : Routine) → env g ≡ r → Triple 𝓤 (𝓡 .run r) (the-step 𝓤 H (𝓖 .A) (givenOf 𝓤 H 𝓜 𝓖)) → Triple 𝓤 (𝓡 .run (env key)) (tripleOf 𝓤 H (𝓖 .A) (Call p .signature) (closing 𝓤 H (𝓖 .A) (Call p) (of-call p 𝓤)))
-  call-spec 𝓤 H 𝓜 𝓖 𝓡 env key g =
+  -- the call meets its contract c, where that follows from the step's, and the step g meets its own
+  pub call-spec : {M : Type 1} (𝓤 : URA M) (H : Heap 𝓤) (𝓜 : Model 𝓤 H) (𝓖 : GhostRules 𝓤 H) (𝓡 : Running 𝓤 H 𝓜) (c : Clauses 𝓤 (Call p)) → Follows 𝓤 H (𝓖 .A) (givenOf 𝓤 H 𝓜 𝓖) c
+      → (env : Routines) (key g : Name) → Closed 𝓤 H (tables 𝓤 H 𝓜 𝓡 env .C) (tables 𝓤 H 𝓜 𝓡 env .Λ) key (code g) → (r : Routine) → env g ≡ r → Triple 𝓤 (𝓡 .run r) (the-step 𝓤 H (𝓖 .A) (givenOf 𝓤 H 𝓜 𝓖))
+      → Triple 𝓤 (𝓡 .run (env key)) (tripleOf 𝓤 H (𝓖 .A) (Call p .signature) (closing 𝓤 H (𝓖 .A) (Call p) c))
+  call-spec 𝓤 H 𝓜 𝓖 𝓡 c follows env key g =
       let W : Given 𝓤 H (𝓖 .A) = givenOf 𝓤 H 𝓜 𝓖 in
-      proved 𝓤 H 𝓜 𝓖 𝓡 (Call p) stayed (of-call p 𝓤) (λ κs. (ptr-vals, spells ss ls κs)) (code g) g (the-step 𝓤 H (𝓖 .A) W)
+      proved 𝓤 H 𝓜 𝓖 𝓡 (Call p) stayed c (λ κs. (ptr-vals, spells ss ls κs)) (code g) g (the-step 𝓤 H (𝓖 .A) W)
       (λ κs. (mut-tells (named 0) (κs .0) (row (S .type)), all-tell ss ls κs)) (goes-ref 𝓤 H (𝓖 .A) W (suc n) 0 tt (plain (λ _. row (S .type))), all-go 𝓤 H (𝓖 .A) W ss ls)
-      (λ 𝓣 known κs qs bounds a gh are. walk 𝓤 H (𝓖 .A) W κs qs a (are .1) 𝓣 g known) env key
+      (λ 𝓣 known κs qs bounds a gh are. walk 𝓤 H (𝓖 .A) W c follows κs qs a gh (are .1) 𝓣 g known) env key

@@ -90,9 +90,6 @@ module _ (p : Plan) where
   abbrev pub Owner : Ended
   Owner = record { signature = record { lifetimes = p .lifetimes; outlives = []; params = taken (p .lent) (p .args) the-record; result = plain (λ _. row (both (p .outcome))) }; kept = all yes (taken (p .lent) (p .args) the-record) }
 
-  abbrev pub of-owner : {M : Type 1} (𝓤 : URA M) → Clauses 𝓤 Owner
-  of-owner 𝓤 κs a = record { ghost = Unit {0}; requires = λ _. emp 𝓤; ensures = λ _ r e. fact 𝓤 (r ≡ p .rule κs (passing (p .lent) (p .args) (p .takes) κs (a .0) (a .1))) }
-
 -- ---- a walk of the function f, which calls g, becomes the theorem about the routine that f is
 module _ {M : Type 1} (𝓤 : URA M) (H : Heap 𝓤) (𝓜 : Model 𝓤 H) (𝓖 : GhostRules 𝓤 H) (𝓡 : Running 𝓤 H 𝓜)
     (T : Ended) (hs : Stays (T .signature .params) (T .kept)) (c : Clauses 𝓤 T) (sp : (κs : Lfts (T .signature .lifetimes)) → Spells (typesAt (T .signature .params) κs)) (f : Fn) (g : Name) (d : Contract 𝓤) where

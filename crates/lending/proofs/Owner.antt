@@ -16,7 +16,7 @@ use ghost.Atoms.{Atoms, sem}
 use contract.Monad.{fact, factI}
 use contract.Running.{GhostRules, Running, givenOf, tables}
 use contract.Lifetimes.{Lfts, Shares, toks}
-use types.Kit.{Given, ‵, raw, later, some, ⋆, _⊛_, _$_, _∵_, !, qed, move, keep, drop, use0, use1, use2, split, join, pick, rewrite, fsplit, fjoin, suffices, await, updating, now as at-once, show, done}
+use types.Kit.{Given, ‵, raw, later, some, ⋆, _⊛_, _$_, _∵_, !, qed, move, keep, drop, use0, use1, use2, split, join, pick, group, rewrite, frame, fsplit, fjoin, suffices, await, updating, now as at-once, show, done}
 use types.Run.{enter}
 use sound.WpLaws.{fmOf}
 use denote.RattleType.{Denots, Valss, flat, owns}
@@ -27,7 +27,7 @@ use denote.Steps.{heard, nothing}
 use denote.Struct.Declared.{row}
 use denote.Enum.Declared as E
 use denote.Triple.End.{Fins, all, lastsOf}
-use denote.Triple.Clauses.{closing}
+use denote.Triple.Clauses.{Clauses, atExit, closing}
 use denote.Triple.Entry.{onEntry}
 use denote.Triple.Statement.{Contract, Triple}
 use denote.Triple.Spec.{tripleOf}
@@ -35,7 +35,7 @@ use denote.Triple.Walked.{hasOf, walkOf, ends-at, says}
 use Rattle.lending.proofs.Data.{Struct, Enum, Outcome, valOf, both, bothVal}
 use Rattle.lending.proofs.Arguments.{Knowns, struct-known, tys, spells, all-tell, dropped, lasts-of, fits, passed, vals-are, nothing-had, all-go, in-steps, step-knowns, ups, downs-ups, vals-up, flat-up, owns-up}
 use Rattle.lending.proofs.Locals.{Passed, vals}
-use Rattle.lending.proofs.Contracts.{passing, Plan, Call, given, of-call, Owner, of-owner, proved}
+use Rattle.lending.proofs.Contracts.{passing, Plan, Call, given, of-call, Owner, proved}
 use Rattle.lending.proofs.Owned.{locals, body, reference, returned, lends}
 
 module _ (p : Plan) where
@@ -75,13 +75,20 @@ module _ (p : Plan) where
     abbrev the-call : Contract 𝓤
     the-call = tripleOf 𝓤 H A (Call p .signature) (closing 𝓤 H A (Call p) (of-call p 𝓤))
 
-    module _ (κs : Lfts n) (qs : Shares n) (a : Denots (typesAt params κs)) where
+    -- what the step would give
+    abbrev given-by : (κs : Lfts n) → Denots (typesAt params κs) → G .D
+    given-by κs a = p .rule κs (passing S (p .args) (p .takes) κs (a .0) (a .1))
+
+    -- what the function's contract c ensures holds of that
+    abbrev Follows : Clauses 𝓤 (Owner p) → Type 1
+    Follows c = (κs : Lfts n) (a : Denots (typesAt params κs)) (gh : c κs a .ghost) → ent 𝓤 (emp 𝓤) (c κs a .ensures gh (given-by κs a) (atExit (Owner p) κs a (lasts-of params knowns κs a)))
+
+    module _ (c : Clauses 𝓤 (Owner p)) (follows : Follows c) (κs : Lfts n) (qs : Shares n) (a : Denots (typesAt params κs)) (gh : c κs a .ghost) where
       abbrev vss : Valss (typesAt ss κs)
       vss = valss (typesAt ss κs) (spells ss ls κs) (a .1)
 
-      -- what the step would give
       abbrev r : G .D
-      r = p .rule κs (passing S (p .args) (p .takes) κs (a .0) (a .1))
+      r = given-by κs a
 
       abbrev Toks : SProp 𝓤
       Toks = toks 𝓤 A n κs qs
@@ -93,8 +100,8 @@ module _ (p : Plan) where
       abbrev x : ℕ → GName → ℕ → the-call .Ghost
       x ν γ b = (((ν ∷ [], κs), (fullShare, qs), tt, (record { ptr = (b, 0); name = γ; now = a .0 }, ups (p .args) (ν ∷ [], κs) (a .1)), (vptr b 0 ∷ [], vals-up (p .args) (ν ∷ [], κs) vss)), tt)
 
-      abbrev y : walkOf 𝓤 H A (Owner p) (dropped params) (of-owner p 𝓤) .Ghost
-      y = ((κs, qs, tt, a, (valOf (S .facts) (a .0) ∷ [], vss)), tt)
+      abbrev y : walkOf 𝓤 H A (Owner p) (dropped params) c .Ghost
+      y = ((κs, qs, tt, a, (valOf (S .facts) (a .0) ∷ [], vss)), gh)
 
       asks : (ν : ℕ) (γ : GName) (b : ℕ) → ent 𝓤 (sep 𝓤 (A .lft (ν ∷ []) fullShare) (sep 𝓤 (reference 𝓤 H A G (a .0) ν γ b) P)) (the-call .pre (x ν γ b))
       asks ν γ b =
@@ -115,14 +122,12 @@ module _ (p : Plan) where
           updating ! $ await ! tt $ pick ! (λ z. split ! $ move ! (1 ∷ []) $ pick ! (λ ws. split ! $ move ! (1 ∷ []) $ heard ! _ (λ e. fsplit ! $ rewrite ! 0 (λ (w : S .type .D). ‵ (fres γ (row (S .type) .coded .code w))) (e .0 ∙ ap (G .next) (same ν)) refl $
           move ! (2 ∷ []) $ split ! $ split ! $ use0 W (raw (fact 𝓤 (z ≡ G .answer r))) (factI 𝓤 _ _ (e .1 ∙ ap (G .answer) (same ν))) $ at-once ! $ show ! (returned 𝓤 H A G r Toks ν γ v) z $ keep ! (3 ∷ 0 ∷ 4 ∷ 1 ∷ 2 ∷ []) $ done !)))
 
-      abbrev ws : Fins κs params (all yes params) a
-      ws = lasts-of params knowns κs a
-
-      exits : ent 𝓤 (⋆ 𝓤 H A (raw Toks ∷ ‵ (row (both G) .own r (bothVal G r ∷ [])) ∷ [])) (walkOf 𝓤 H A (Owner p) (dropped params) (of-owner p 𝓤) .post y (bothVal G r))
+      exits : ent 𝓤 (⋆ 𝓤 H A (raw Toks ∷ ‵ (row (both G) .own r (bothVal G r ∷ [])) ∷ [])) (walkOf 𝓤 H A (Owner p) (dropped params) c .post y (bothVal G r))
       exits =
-          qed W (raw Toks ∷ ‵ (row (both G) .own r (bothVal G r ∷ [])) ∷ []) ∵
-          suffices ! _ (ends-at 𝓤 H A (Owner p) (dropped params) (of-owner p 𝓤) W y (bothVal G r) r ws (fits params κs a ws)) $ says ! refl $
-          use0 W (‵ (hasOf κs params (all yes params) (dropped params) a ws (valOf (S .facts) (a .0) ∷ [], vss))) (nothing-had 𝓤 H A W params κs a ws (valOf (S .facts) (a .0) ∷ [], vss)) $ move ! (1 ∷ 0 ∷ []) $ done !
+          let ws : Fins κs params (all yes params) a = lasts-of params knowns κs a in
+          qed W (raw Toks ∷ ‵ (row (both G) .own r (bothVal G r ∷ [])) ∷ []) ∵ suffices ! _ (ends-at 𝓤 H A (Owner p) (dropped params) c W y (bothVal G r) r ws (fits params κs a ws)) $
+          use0 W (raw (c κs a .ensures gh r (atExit (Owner p) κs a ws))) (follows κs a gh) $
+          use0 W (‵ (hasOf κs params (all yes params) (dropped params) a ws (valOf (S .facts) (a .0) ∷ [], vss))) (nothing-had 𝓤 H A W params κs a ws (valOf (S .facts) (a .0) ∷ [], vss)) $ move ! (2 ∷ 0 ∷ 3 ∷ []) $ group ! 3 $ frame ! $ done !
 
       module _ (are : Are (typesAt params κs) (Ises (typesAt params κs)) a (valss (typesAt params κs) (spells params knowns κs) a)) (𝓣 : Tables 𝓤 H) (g : Name) (known : Triple 𝓤 (𝓣 .C g) the-call) where
         abbrev ps : Passed τs
@@ -133,11 +138,11 @@ module _ (p : Plan) where
 
         -- the function runs from what the types own, with the record and the arguments vs
         abbrev Runs : List Val → Type 1
-        Runs vs = ent 𝓤 (sep 𝓤 (onEntry 𝓤 H A (Owner p .signature) κs qs a (valOf (S .facts) (a .0) ∷ [], vss)) (emp 𝓤)) (WpFn 𝓤 H (𝓣 .C) (𝓣 .Λ) (code g) (valOf (S .facts) (a .0) ∷ vs) (walkOf 𝓤 H A (Owner p) (dropped params) (of-owner p 𝓤) .post y))
+        Runs vs = ent 𝓤 (sep 𝓤 (onEntry 𝓤 H A (Owner p .signature) κs qs a (valOf (S .facts) (a .0) ∷ [], vss)) (c κs a .requires gh)) (WpFn 𝓤 H (𝓣 .C) (𝓣 .Λ) (code g) (valOf (S .facts) (a .0) ∷ vs) (walkOf 𝓤 H A (Owner p) (dropped params) c .post y))
 
         runs : Runs (vals τs ps)
         runs =
-            qed W ((raw Toks ⊛ ‵ (owns (typesAt params κs) a (valOf (S .facts) (a .0) ∷ [], vss))) ∷ ‵ ftrue ∷ []) ∵ split ! $ move ! (1 ∷ []) $ fsplit ! $ drop ! $ use2 W (raw P) (id⊢ 𝓤 _) $ keep ! (0 ∷ []) $
+            qed W ((raw Toks ⊛ ‵ (owns (typesAt params κs) a (valOf (S .facts) (a .0) ∷ [], vss))) ∷ raw (c κs a .requires gh) ∷ []) ∵ split ! $ move ! (1 ∷ []) $ fsplit ! $ drop ! $ use2 W (raw P) (id⊢ 𝓤 _) $ keep ! (0 ∷ []) $
             enter ! (𝓣 .C) (𝓣 .Λ) (code g) (valOf (S .facts) (a .0) ∷ vals τs ps) _ $
             lends G τs 𝓤 H A W (𝓣 .C) (𝓣 .Λ) (fmOf 𝓤 H (W .laws) 𝓣) ps g (a .0) (are .0) r P Toks (λ ν γ b. the-call .pre (x ν γ b)) (λ ν γ b. the-call .post (x ν γ b)) _ asks
             (λ ν γ b. subst (λ (vs : List Val). ent 𝓤 (the-call .pre (x ν γ b)) (𝓣 .C g (vptr b 0 ∷ vs) (the-call .post (x ν γ b)))) (flat-up (p .args) (ν ∷ [], κs) vss ∙ sym values) (known (x ν γ b)))
@@ -146,10 +151,11 @@ module _ (p : Plan) where
         walk : Runs (flat (typesAt ss κs) vss)
         walk = subst Runs values runs
 
-  -- the function meets the step's contract, where the call g that it lends to meets its own
-  pub owner-spec : {M : Type 1} (𝓤 : URA M) (H : Heap 𝓤) (𝓜 : Model 𝓤 H) (𝓖 : GhostRules 𝓤 H) (𝓡 : Running 𝓤 H 𝓜) (env : Routines) (key g : Name) → Closed 𝓤 H (tables 𝓤 H 𝓜 𝓡 env .C) (tables 𝓤 H 𝓜 𝓡 env .Λ) key (code g)
-      → (r : Routine) → env g ≡ r → Triple 𝓤 (𝓡 .run r) (the-call 𝓤 H (𝓖 .A) (givenOf 𝓤 H 𝓜 𝓖)) → Triple 𝓤 (𝓡 .run (env key)) (tripleOf 𝓤 H (𝓖 .A) (Owner p .signature) (closing 𝓤 H (𝓖 .A) (Owner p) (of-owner p 𝓤)))
-  owner-spec 𝓤 H 𝓜 𝓖 𝓡 env key g =
+  -- the function meets its contract c, where that follows from the step's, and the call g that it lends to meets its own
+  pub owner-spec : {M : Type 1} (𝓤 : URA M) (H : Heap 𝓤) (𝓜 : Model 𝓤 H) (𝓖 : GhostRules 𝓤 H) (𝓡 : Running 𝓤 H 𝓜) (c : Clauses 𝓤 (Owner p)) → Follows 𝓤 H (𝓖 .A) (givenOf 𝓤 H 𝓜 𝓖) c
+      → (env : Routines) (key g : Name) → Closed 𝓤 H (tables 𝓤 H 𝓜 𝓡 env .C) (tables 𝓤 H 𝓜 𝓡 env .Λ) key (code g) → (r : Routine) → env g ≡ r → Triple 𝓤 (𝓡 .run r) (the-call 𝓤 H (𝓖 .A) (givenOf 𝓤 H 𝓜 𝓖))
+      → Triple 𝓤 (𝓡 .run (env key)) (tripleOf 𝓤 H (𝓖 .A) (Owner p .signature) (closing 𝓤 H (𝓖 .A) (Owner p) c))
+  owner-spec 𝓤 H 𝓜 𝓖 𝓡 c follows env key g =
       let W : Given 𝓤 H (𝓖 .A) = givenOf 𝓤 H 𝓜 𝓖 in
-      proved 𝓤 H 𝓜 𝓖 𝓡 (Owner p) (dropped params) (of-owner p 𝓤) (spells params knowns) (code g) g (the-call 𝓤 H (𝓖 .A) W)
-      (all-tell params knowns) (all-go 𝓤 H (𝓖 .A) W params knowns) (λ 𝓣 known κs qs bounds a gh are. walk 𝓤 H (𝓖 .A) W κs qs a are 𝓣 g known) env key
+      proved 𝓤 H 𝓜 𝓖 𝓡 (Owner p) (dropped params) c (spells params knowns) (code g) g (the-call 𝓤 H (𝓖 .A) W)
+      (all-tell params knowns) (all-go 𝓤 H (𝓖 .A) W params knowns) (λ 𝓣 known κs qs bounds a gh are. walk 𝓤 H (𝓖 .A) W c follows κs qs a gh are 𝓣 g known) env key
