@@ -8,7 +8,7 @@ use lib.ListN.{length}
 use mir.Syntax.{Ty, tyRef, imm, named}
 use mir.Val.{Val, WT, hasTy}
 use base.Logic.{ent, emp, id⊢}
-use base.Fml.{Fml, ftrue, fsep}
+use base.Fml.{ftrue, fsep}
 use prog.Wp.{Heap}
 use ghost.Atoms.{Atoms, sem}
 use contract.Lifetimes.{Lfts, Within, lftAt}
@@ -22,8 +22,7 @@ use denote.Signature.{Slot, plain, typesAt, shrSliceOf}
 use denote.Exit.{yes, Exit, Last, left, unchanged, under}
 use denote.Struct.Field.{Field}
 use denote.Struct.Declared.{row}
-use denote.Struct.Laws as LL
-use denote.Triple.End.{Kepts, Fins, all}
+use denote.Triple.End.{Fins, all}
 use denote.Triple.Walked.{Stays, stay-dropped, fitsOf, hasOf, AllGo, goes-dropped}
 use Rattle.lending.proofs.Data.{Facts, Struct, valOf, structTy, typed}
 use Rattle.lending.proofs.Locals.{Passed, vals}

@@ -7,33 +7,30 @@ use lib.ListN.{length}
 use mir.Syntax.{Name, Ty, named, Fn}
 use mir.Val.{Val, vptr}
 use base.Logic.{SProp, ent, sep, emp, ex, id⊢, exE, snd∗}
-use base.Fml.{Fml, ftrue, flft, fobs, fbor}
+use base.Fml.{Fml, flft}
 use prog.Wp.{Heap, Tables, WpFn, Closed}
 use prog.Model.{Model}
 use prog.Routine.{Routine, Env as Routines}
 use ghost.Atoms.{Atoms, sem}
-use contract.Monad.{fact, factI}
+use contract.Monad.{fact}
 use contract.Running.{GhostRules, Running, givenOf, tables}
 use contract.Lifetimes.{Lfts, Shares, toks}
 use types.Kit.{Given, ‵, raw, later, some, ⋆, _⊛_, _$_, _∵_, !, qed, move, keep, drop, use0, use1, use2, split, join, pick, group, rewrite, fsplit, fsplit3, fjoin, fjoin3, feqI, suffices, frame, await, updating, now as at-once, show, done}
 use types.Run.{enter}
-use types.SemTy.{Body}
 use sound.WpLaws.{fmOf}
 use denote.RattleType.{Denots, Valss, flat, owns}
 use denote.Laws.{Ises, Are, valss}
-use denote.Memory.{mem}
-use denote.Ref.{MutRef, ptr-vals, mut-tells}
+use denote.Ref.{ptr-vals, mut-tells}
 use denote.Signature.{Slot, plain, typesAt}
 use denote.Exit.{yes}
 use denote.Steps.{nothing}
 use denote.Struct.Declared.{row}
-use denote.Enum.Declared as E
 use denote.Triple.End.{all}
 use denote.Triple.Clauses.{Clauses, Lasts, atExit, closing, ensured, lasts}
 use denote.Triple.Entry.{onEntry}
 use denote.Triple.Statement.{Contract, Triple}
 use denote.Triple.Spec.{tripleOf}
-use denote.Triple.Walked.{Stays, stay-ref, hasOf, goes-ref, walkOf, ends-at, says}
+use denote.Triple.Walked.{Stays, stay-ref, hasOf, goes-ref, walkOf, ends-at}
 use Rattle.lending.proofs.Data.{Struct, Enum, Outcome, valOf, both}
 use Rattle.lending.proofs.Arguments.{Knowns, tys, spells, all-tell, dropped, lasts-of, fits, passed, vals-are, nothing-had, all-go, in-calls, call-knowns, downs, vals-down, flat-down, owns-down}
 use Rattle.lending.proofs.Locals.{Passed, vals}
