@@ -1,0 +1,91 @@
+-- What each call is made of, for `lending`: the record, the arguments, the answer, what the step gives, and the rule that it follows.
+use mathlib.Core.Path.{refl}
+use mathlib.Core.List.{[], _∷_}
+use Prim.Native.Nat.{ℕ}
+use mir.Syntax.{w64, tyInt}
+use denote.Builtin.{f64}
+use denote.Struct.Field.{u64-field}
+use denote.Struct.Laws as LL
+use Rattle.lending.proofs.Data.{Struct, Enum, Outcome}
+use Rattle.lending.proofs.Arguments.{Argument, number, struct, slice}
+use Rattle.lending.proofs.Lent.{the-record, no-record}
+use Rattle.lending.proofs.Contracts.{Plan}
+use Rattle.session.specs.Steps.{openOf, predictOf, correctOf, withdrawOf}
+use Rattle.ticks.proofs.Sample
+use Rattle.ticks.proofs.Sample.Laws as SampleLaws
+use Rattle.session.proofs.Session
+use Rattle.session.proofs.Session.Laws as SessionLaws
+use Rattle.session.proofs.Start
+use Rattle.session.proofs.Start.Laws as StartLaws
+use Rattle.session.proofs.Opening
+use Rattle.session.proofs.Opening.Laws as OpeningLaws
+use Rattle.session.proofs.Opened
+use Rattle.session.proofs.Prediction
+use Rattle.session.proofs.Prediction.Laws as PredictionLaws
+use Rattle.session.proofs.Predicted
+use Rattle.session.proofs.Correction
+use Rattle.session.proofs.Correction.Laws as CorrectionLaws
+use Rattle.session.proofs.Corrected
+use Rattle.session.proofs.Withdrawal
+use Rattle.session.proofs.Withdrawal.Laws as WithdrawalLaws
+use Rattle.session.proofs.Withdrawn
+
+-- ---- the record, and the arguments
+abbrev session : Struct
+session = record { type = Session.the-type; facts = record { laws = SessionLaws.the-field-laws; plain = SessionLaws.the-field-plain; copy = SessionLaws.the-field-copy } }
+
+abbrev start : Struct
+start = record { type = Start.the-type; facts = record { laws = StartLaws.the-field-laws; plain = StartLaws.the-field-plain; copy = StartLaws.the-field-copy } }
+
+abbrev sample : Struct
+sample = record { type = Sample.the-type; facts = record { laws = SampleLaws.the-field-laws; plain = SampleLaws.the-field-plain; copy = SampleLaws.the-field-copy } }
+
+abbrev count : {n : ℕ} → Argument n
+count = number u64-field (record { laws = LL.u64-laws; plain = LL.u64-plain; copy = LL.u64-copy }) (tyInt w64) refl
+
+-- ---- the answers
+abbrev opening : Enum
+opening = record { type = Opening.the-type; facts = record { laws = OpeningLaws.the-field-laws; plain = OpeningLaws.the-field-plain; copy = OpeningLaws.the-field-copy } }
+
+abbrev prediction : Enum
+prediction = record { type = Prediction.the-type; facts = record { laws = PredictionLaws.the-field-laws; plain = PredictionLaws.the-field-plain; copy = PredictionLaws.the-field-copy } }
+
+abbrev correction : Enum
+correction = record { type = Correction.the-type; facts = record { laws = CorrectionLaws.the-field-laws; plain = CorrectionLaws.the-field-plain; copy = CorrectionLaws.the-field-copy } }
+
+abbrev withdrawal : Enum
+withdrawal = record { type = Withdrawal.the-type; facts = record { laws = WithdrawalLaws.the-field-laws; plain = WithdrawalLaws.the-field-plain; copy = WithdrawalLaws.the-field-copy } }
+
+-- ---- what the steps give
+abbrev opened : Outcome session opening
+opened = record { name = Opened.the-type .name; D = Opened.the-type .D; next = λ r. r .session; answer = λ r. r .answer; to-one = Opened.the-type .to-one }
+
+abbrev predicted : Outcome session prediction
+predicted = record { name = Predicted.the-type .name; D = Predicted.the-type .D; next = λ r. r .session; answer = λ r. r .answer; to-one = Predicted.the-type .to-one }
+
+abbrev corrected : Outcome session correction
+corrected = record { name = Corrected.the-type .name; D = Corrected.the-type .D; next = λ r. r .session; answer = λ r. r .answer; to-one = Corrected.the-type .to-one }
+
+abbrev withdrawn : Outcome session withdrawal
+withdrawn = record { name = Withdrawn.the-type .name; D = Withdrawn.the-type .D; next = λ r. r .session; answer = λ r. r .answer; to-one = Withdrawn.the-type .to-one }
+
+-- ---- the calls
+abbrev pub opens : Plan
+opens = record {
+  lent = session;
+  answer = opening;
+  outcome = opened;
+  lifetimes = 1;
+  args = count ∷ count ∷ count ∷ struct start ∷ slice 0 tt f64 ∷ [];
+  takes = no-record;
+  rule = λ κs a. openOf (a .0) (a .1 .0) (a .1 .1 .0) (a .1 .1 .1 .0) (a .1 .1 .1 .1 .0 .now);
+}
+
+abbrev pub predicts : Plan
+predicts = record { lent = session; answer = prediction; outcome = predicted; lifetimes = 0; args = []; takes = the-record; rule = λ κs a. predictOf (a .0) }
+
+abbrev pub corrects : Plan
+corrects = record { lent = session; answer = correction; outcome = corrected; lifetimes = 0; args = struct sample ∷ []; takes = the-record; rule = λ κs a. correctOf (a .0) (a .1 .0) }
+
+abbrev pub withdraws : Plan
+withdraws = record { lent = session; answer = withdrawal; outcome = withdrawn; lifetimes = 0; args = []; takes = the-record; rule = λ κs a. withdrawOf (a .0) }

@@ -1,0 +1,52 @@
+// The calls of the library: each is lent the session's record, takes the step by value, and leaves the record that the step gives.
+use session::Correction;
+use session::Opening;
+use session::Prediction;
+use session::Session;
+use session::Start;
+use session::Withdrawal;
+use ticks::Sample;
+ghost use mathlib.Core.Path.{_≡_};
+ghost use Rattle.session.specs.Steps.{openOf, predictOf, correctOf, withdrawOf};
+
+pub mod owned;
+
+pub fn open(
+    s: &mut Session,
+    points: usize,
+    tolerance: u64,
+    limit: u64,
+    start: Start,
+    samples: &[f64],
+) -> Opening
+    ensures { λ r. ⌜ (now (s .exit) ≡ openOf points tolerance limit start (now (samples .entry)) .session)
+        × (r ≡ openOf points tolerance limit start (now (samples .entry)) .answer) ⌝ }
+{
+    let r = session::open_step(points, tolerance, limit, start, samples);
+    *s = r.session;
+    r.answer
+}
+
+pub fn predict(s: &mut Session) -> Prediction
+    ensures { λ r. ⌜ (now (s .exit) ≡ predictOf (now (s .entry)) .session) × (r ≡ predictOf (now (s .entry)) .answer) ⌝ }
+{
+    let r = session::predict_step(*s);
+    *s = r.session;
+    r.answer
+}
+
+pub fn correct(s: &mut Session, a: Sample) -> Correction
+    ensures { λ r. ⌜ (now (s .exit) ≡ correctOf (now (s .entry)) a .session) × (r ≡ correctOf (now (s .entry)) a .answer) ⌝ }
+{
+    let r = session::correct_step(*s, a);
+    *s = r.session;
+    r.answer
+}
+
+pub fn withdraw(s: &mut Session) -> Withdrawal
+    ensures { λ r. ⌜ (now (s .exit) ≡ withdrawOf (now (s .entry)) .session) × (r ≡ withdrawOf (now (s .entry)) .answer) ⌝ }
+{
+    let r = session::withdraw_step(*s);
+    *s = r.session;
+    r.answer
+}
