@@ -1,0 +1,39 @@
+-- A formula's row of nine weights: it begins with the p weights by samples, and comes to what the differences come to.
+use mathlib.Core.Path.{_≡_, refl, _∙_, ap}
+use mathlib.Core.Bool.{true}
+use mathlib.Core.List.{List}
+use Prim.Native.Nat.{ℕ, zero, suc, _-_, _≤_}
+use native.Mathlib.Omega.{arith}
+use lib.IntN.{ℤ, pos}
+use lib.ListN.{length, take, replicate}
+use lib.Seq.{take-at, length-take-le}
+use Rattle.integers.specs.Differences.{bySamples, byDifferences, ordinates, ordinates-law, length-ordinates, padded}
+use Rattle.coefficients.specs.Fraction.{Fraction}
+use Rattle.coefficients.specs.Scaled.{allWhole, run, later}
+use Rattle.coefficients.specs.Formulas.{row, weightsOf, coefficientOf, firstIndex}
+use Rattle.coefficients.specs.declared.Formula.{Formula}
+use Rattle.coefficients.proofs.Written.{wholeOf, weights-run}
+
+pub row-law : (formula : ℕ → List ℤ) (p : ℕ) (x : ℕ → ℤ) → bySamples (row formula p) x ≡ byDifferences (formula p) x
+unfolding row
+row-law formula p x = padded (ordinates (formula p)) (9 - p) x ∙ ordinates-law (formula p) x
+
+-- ---- lengths
+
+pub length-run : (f : ℕ → Fraction) (i n : ℕ) (w : allWhole f i n ≡ true) → length (run f i n w) ≡ n
+unfolding run
+length-run f i zero w = refl
+length-run f i (suc n) w = ap suc (length-run f (suc i) n (later f i n w))
+
+module _ (f : Formula) (p : ℕ) (h : p ≤ 9) where
+  pub length-weights : length (weightsOf f p) ≡ p
+  length-weights =
+      let n : length (run (coefficientOf f) (firstIndex f) 9 (wholeOf f)) ≡ 9 = length-run (coefficientOf f) (firstIndex f) 9 (wholeOf f) in
+      ap length (weights-run f p) ∙ length-take-le p (run (coefficientOf f) (firstIndex f) 9 (wholeOf f)) (omega arith)
+
+  pub length-row : length (ordinates (weightsOf f p)) ≡ p
+  length-row = length-ordinates (weightsOf f p) ∙ length-weights
+
+  pub take-row : take p (row (weightsOf f) p) ≡ ordinates (weightsOf f p)
+  unfolding row
+  take-row = take-at (ordinates (weightsOf f p)) (replicate (9 - p) (pos 0)) p length-row
