@@ -1,5 +1,5 @@
 -- `table_text::put_answer` meets its contract: a refusal for 0 points, and else the table.
-use mathlib.Core.Path.{_≡_, refl, sym, ap}
+use mathlib.Core.Path.{_≡_, refl, ap}
 use Prim.Native.Nat.{ℕ, zero, suc}
 use borrow.Author.Needs.{needs}
 use Rattle.table_text.specs.Text.{answerFor, tableText, ascii}

@@ -1,6 +1,5 @@
 -- `table_text::put_heading` meets its contract: five pieces, one after the other.
 use mathlib.Core.Path.{_≡_, ap}
-use Prim.Native.Nat.{_<_}
 use native.Mathlib.Omega.{arith}
 use borrow.Author.Needs.{needs}
 use lib.ListN.{length}
