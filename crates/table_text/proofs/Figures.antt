@@ -1,0 +1,14 @@
+-- The figures of `specs/Figures.antt`, shown by computing.
+use mathlib.Core.Path.{refl}
+use Rattle.integers.specs.Differences.{ordinates, spread}
+use Rattle.integers.specs.Lines.{All}
+use Rattle.coefficients.specs.Fraction.{times}
+use Rattle.coefficients.specs.Rules as R
+use Rattle.coefficients.specs.Scaled.{run}
+use Rattle.coefficients.specs.Formulas.{positionPredictor, positionCorrector, velocityPredictor, velocityCorrector}
+use Rattle.table_text.specs.Text.{ascii, digits, decimal, signed, numbers, line, heading, tableText, pointsIn, answerFor, answerTo}
+use Rattle.table_text.specs.Figures.{figures}
+
+pub figures-hold : All figures
+unfolding ascii digits decimal signed numbers line heading tableText pointsIn answerFor answerTo run times ordinates spread positionPredictor positionCorrector velocityPredictor velocityCorrector R.s R.l R.g R.total R.c R.terms R.next R.divided
+figures-hold = (refl, (refl, (refl, (refl, (refl, (refl, (refl, (refl, (refl, tt)))))))))
