@@ -10,25 +10,25 @@ use Rattle.lending.proofs.Data.{Struct, Enum, Outcome}
 use Rattle.lending.proofs.Arguments.{Argument, number, struct, slice}
 use Rattle.lending.proofs.Lent.{the-record, no-record}
 use Rattle.lending.proofs.Contracts.{Plan}
-use Rattle.session.specs.Steps.{openOf, predictOf, correctOf, withdrawOf}
+use Rattle.steps.specs.Steps.{openOf, predictOf, correctOf, withdrawOf}
 use Rattle.ticks.proofs.Sample
 use Rattle.ticks.proofs.Sample.Laws as SampleLaws
 use Rattle.session.proofs.Session
 use Rattle.session.proofs.Session.Laws as SessionLaws
-use Rattle.session.proofs.Start
-use Rattle.session.proofs.Start.Laws as StartLaws
-use Rattle.session.proofs.Opening
-use Rattle.session.proofs.Opening.Laws as OpeningLaws
-use Rattle.session.proofs.Opened
-use Rattle.session.proofs.Prediction
-use Rattle.session.proofs.Prediction.Laws as PredictionLaws
-use Rattle.session.proofs.Predicted
-use Rattle.session.proofs.Correction
-use Rattle.session.proofs.Correction.Laws as CorrectionLaws
-use Rattle.session.proofs.Corrected
-use Rattle.session.proofs.Withdrawal
-use Rattle.session.proofs.Withdrawal.Laws as WithdrawalLaws
-use Rattle.session.proofs.Withdrawn
+use Rattle.steps.proofs.Start
+use Rattle.steps.proofs.Start.Laws as StartLaws
+use Rattle.steps.proofs.Opening
+use Rattle.steps.proofs.Opening.Laws as OpeningLaws
+use Rattle.steps.proofs.AfterOpen
+use Rattle.steps.proofs.Prediction
+use Rattle.steps.proofs.Prediction.Laws as PredictionLaws
+use Rattle.steps.proofs.AfterPredict
+use Rattle.steps.proofs.Correction
+use Rattle.steps.proofs.Correction.Laws as CorrectionLaws
+use Rattle.steps.proofs.AfterCorrect
+use Rattle.steps.proofs.Withdrawal
+use Rattle.steps.proofs.Withdrawal.Laws as WithdrawalLaws
+use Rattle.steps.proofs.AfterWithdraw
 
 -- ---- the record, and the arguments
 abbrev session : Struct
@@ -58,16 +58,16 @@ withdrawal = record { type = Withdrawal.the-type; facts = record { laws = Withdr
 
 -- ---- what the steps give
 abbrev opened : Outcome session opening
-opened = record { name = Opened.the-type .name; D = Opened.the-type .D; next = λ r. r .session; answer = λ r. r .answer; to-one = Opened.the-type .to-one }
+opened = record { name = AfterOpen.the-type .name; D = AfterOpen.the-type .D; next = λ r. r .session; answer = λ r. r .answer; to-one = AfterOpen.the-type .to-one }
 
 abbrev predicted : Outcome session prediction
-predicted = record { name = Predicted.the-type .name; D = Predicted.the-type .D; next = λ r. r .session; answer = λ r. r .answer; to-one = Predicted.the-type .to-one }
+predicted = record { name = AfterPredict.the-type .name; D = AfterPredict.the-type .D; next = λ r. r .session; answer = λ r. r .answer; to-one = AfterPredict.the-type .to-one }
 
 abbrev corrected : Outcome session correction
-corrected = record { name = Corrected.the-type .name; D = Corrected.the-type .D; next = λ r. r .session; answer = λ r. r .answer; to-one = Corrected.the-type .to-one }
+corrected = record { name = AfterCorrect.the-type .name; D = AfterCorrect.the-type .D; next = λ r. r .session; answer = λ r. r .answer; to-one = AfterCorrect.the-type .to-one }
 
 abbrev withdrawn : Outcome session withdrawal
-withdrawn = record { name = Withdrawn.the-type .name; D = Withdrawn.the-type .D; next = λ r. r .session; answer = λ r. r .answer; to-one = Withdrawn.the-type .to-one }
+withdrawn = record { name = AfterWithdraw.the-type .name; D = AfterWithdraw.the-type .D; next = λ r. r .session; answer = λ r. r .answer; to-one = AfterWithdraw.the-type .to-one }
 
 -- ---- the calls
 abbrev pub opens : Plan

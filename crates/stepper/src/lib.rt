@@ -1,13 +1,13 @@
 // The calls of the library: each is lent the session's record, takes the step by value, and leaves the record that the step gives.
-use session::Correction;
-use session::Opening;
-use session::Prediction;
+use steps::Correction;
+use steps::Opening;
+use steps::Prediction;
 use session::Session;
-use session::Start;
-use session::Withdrawal;
+use steps::Start;
+use steps::Withdrawal;
 use ticks::Sample;
 ghost use mathlib.Core.Path.{_≡_};
-ghost use Rattle.session.specs.Steps.{openOf, predictOf, correctOf, withdrawOf};
+ghost use Rattle.steps.specs.Steps.{openOf, predictOf, correctOf, withdrawOf};
 
 pub mod owned;
 
@@ -22,7 +22,7 @@ pub fn open(
     ensures { λ r. ⌜ (now (s .exit) ≡ openOf points tolerance limit start (now (samples .entry)) .session)
         × (r ≡ openOf points tolerance limit start (now (samples .entry)) .answer) ⌝ }
 {
-    let r = session::open_step(points, tolerance, limit, start, samples);
+    let r = steps::open_step(points, tolerance, limit, start, samples);
     *s = r.session;
     r.answer
 }
@@ -30,7 +30,7 @@ pub fn open(
 pub fn predict(s: &mut Session) -> Prediction
     ensures { λ r. ⌜ (now (s .exit) ≡ predictOf (now (s .entry)) .session) × (r ≡ predictOf (now (s .entry)) .answer) ⌝ }
 {
-    let r = session::predict_step(*s);
+    let r = steps::predict_step(*s);
     *s = r.session;
     r.answer
 }
@@ -38,7 +38,7 @@ pub fn predict(s: &mut Session) -> Prediction
 pub fn correct(s: &mut Session, a: Sample) -> Correction
     ensures { λ r. ⌜ (now (s .exit) ≡ correctOf (now (s .entry)) a .session) × (r ≡ correctOf (now (s .entry)) a .answer) ⌝ }
 {
-    let r = session::correct_step(*s, a);
+    let r = steps::correct_step(*s, a);
     *s = r.session;
     r.answer
 }
@@ -46,7 +46,7 @@ pub fn correct(s: &mut Session, a: Sample) -> Correction
 pub fn withdraw(s: &mut Session) -> Withdrawal
     ensures { λ r. ⌜ (now (s .exit) ≡ withdrawOf (now (s .entry)) .session) × (r ≡ withdrawOf (now (s .entry)) .answer) ⌝ }
 {
-    let r = session::withdraw_step(*s);
+    let r = steps::withdraw_step(*s);
     *s = r.session;
     r.answer
 }
