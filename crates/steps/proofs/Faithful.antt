@@ -3,7 +3,6 @@ use mathlib.Core.Path.{_≡_, refl, sym, subst}
 use mathlib.Core.Bool.{Bool, true, false, cond}
 use mathlib.Core.List.{List}
 use Prim.Native.Nat.{ℕ, zero, suc, _*_, _^_, _≤_, _<_, zero-le}
-use native.Mathlib.Omega.{arith}
 use lib.Ieee.{Float}
 use lib.IntN.{pos, natAbs}
 use Rattle.exact.specs.declared.Exact.{Exact}
@@ -26,7 +25,7 @@ use Rattle.session.specs.Ready.{PlacedPoint}
 use Rattle.session.proofs.Rules.{waiting}
 use Rattle.session.proofs.Kept.{predicted-point-placed, corrected-point-placed}
 use Rattle.steps.specs.declared.Start.{Start}
-use Rattle.steps.specs.Answers.{Answer, answer, unless, reportedMotion, reportedPoint, reportedChange, noPoint, noChange, openingAnswer, predictionAnswer, correctionAnswer, withdrawalAnswer}
+use Rattle.steps.specs.Answers.{answer, unless, reportedMotion, reportedPoint, reportedChange, noPoint, noChange, openingAnswer, predictionAnswer, correctionAnswer, withdrawalAnswer}
 use Rattle.steps.specs.Faithful.{Faithful, FaithfulMotion, FaithfulPoint, FaithfulAnswer}
 use Rattle.steps.specs.Refusals.{openRefusal, predictRefusal, agrees, largestChange, correctRefusal, withdrawRefusal}
 use Rattle.steps.specs.Steps.{openOf, predictOf, correctOf, withdrawOf}

@@ -9,7 +9,6 @@ use lib.IntN.{ℤ}
 use lib.Ieee.{Float}
 use lib.ListN.{length, getD}
 use Rattle.integers.specs.Differences.{at}
-use Rattle.exact.specs.Numerator.{D}
 use Rattle.coefficients.specs.Formulas.{Small}
 use Rattle.coefficients.proofs.Samples.{none, cons}
 use Rattle.ticks.specs.Round.{roundedOf, ticksIn}

@@ -13,9 +13,10 @@ use Rattle.session.specs.Moves.{correctedPoint}
 use Rattle.session.specs.Holding.{awaiting}
 use Rattle.steps.specs.declared.Correction.the-variants as C
 use Rattle.steps.specs.Answers.{NotZero}
-use Rattle.steps.specs.Refusals.{faultNumber, sampleRules, pointRules, correctRules, correctRefusal}
+use Rattle.steps.specs.Refusals.{faultNumber, pointRules, correctRefusal}
 use Rattle.steps.specs.Steps.{correctBy, correctOf}
-use Rattle.steps.proofs.Refusals.{rules-on, no-number, correct-7, correct-4, correct-5}
+use Rattle.steps.proofs.Refusals.{correct-7, correct-4, correct-5}
+use Rattle.steps.proofs.Rules.{rules-on, no-number}
 use Rattle.steps.proofs.corrects.correct_step.Statement.{statement}
 use Rattle.steps.proofs.corrects.correct_step.Tie as tie
 
@@ -29,7 +30,7 @@ module _ (s : Session) (a : Sample) (w : awaiting s ≡ true) where
   faulty Nothing e n = absurd (n refl)
 
   by-point : faultIn (axesOf a) ≡ Nothing → correctRefusal s a ≡ firstOf (pointRules s (correctedPoint s (wholeOf a)))
-  unfolding correctRefusal correctRules sampleRules firstOf
+  unfolding correctRefusal firstOf
   by-point e = let (f, l) = rules-on (axesOf a) Nothing e in simp (w, f, l)
 
 returns : tie.Need-returns

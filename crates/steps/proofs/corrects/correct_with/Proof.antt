@@ -14,7 +14,7 @@ use Rattle.steps.proofs.corrects.correct_with.Tie as tie
 
 module _ (s : Session) (w : WholeSample) (q : Point) (e : q ≡ correctedPoint s w) where
   out-of-range : pointInRange q ≡ false → firstOf (pointRules s (correctedPoint s w)) ≡ 6
-  unfolding pointRules firstOf
+  unfolding firstOf
   out-of-range r = rw (← e, r) refl
 
 corrected-point-requires : tie.Need-corrected-point-requires

@@ -26,15 +26,15 @@ module _ (s : Session) (w : WholeSample) (q : Point) (e : q ≡ correctedPoint s
 
   module _ (r : pointInRange q ≡ true) where
     accepted : agrees s q ≡ true → correctBy (firstOf (pointRules s q)) s w ≡ record { session = acceptedAt s w; answer = C.Accepted (reportedPoint q) }
-    unfolding firstOf pointRules
+    unfolding firstOf
     accepted a = rw (r, a, ← e, a) refl
 
     ended : agrees s q ≡ false → isLast s ≡ true → correctBy (firstOf (pointRules s q)) s w ≡ record { session = settledAgain s; answer = C.Refused 8 }
-    unfolding firstOf pointRules
+    unfolding firstOf
     ended a l = rw (r, a, l) refl
 
     again : agrees s q ≡ false → isLast s ≡ false → correctBy (firstOf (pointRules s q)) s w ≡ record { session = awaitingAt s (s .corrections + 1) q; answer = C.Again (reportedPoint q) (reportedChange (largestChange s q)) }
-    unfolding firstOf pointRules
+    unfolding firstOf
     again a l = rw (r, a, l, ← e, a) refl
 
 is-agreed-requires : tie.Need-is-agreed-requires

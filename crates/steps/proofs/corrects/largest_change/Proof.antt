@@ -20,8 +20,7 @@ larger-requires c κs = (rw (c .before .change2 .ensures) (part-below _), rw (c 
 larger-requires-2 : tie.Need-larger-requires-2
 larger-requires-2 c κs =
     let d = c .before .before in
-    let a = d .before .before .args in
-    (
+    let a = d .before .before .args in (
       rw (d .before .change .ensures) (part-below _),
       rw (larger (changeOf (a .q .y) (a .s .y .estimate)) (changeOf (a .q .z) (a .s .z .estimate)) (c .larger .ensures) (d .change2 .ensures) (c .before .change3 .ensures)) (part-below _),
     )

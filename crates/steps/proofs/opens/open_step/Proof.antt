@@ -22,7 +22,8 @@ use Rattle.steps.specs.Opening.{wholePoint}
 use Rattle.steps.specs.Refusals.{faultNumber, openRefusal}
 use Rattle.steps.specs.Steps.{openBy, openOf}
 use Rattle.steps.proofs.Given.{start-placed}
-use Rattle.steps.proofs.Refusals.{rules-on, no-number, open-1, open-2, open-3, open-6, open-4, open-5, open-0}
+use Rattle.steps.proofs.Refusals.{open-1, open-2, open-3, open-6, open-4, open-5, open-0}
+use Rattle.steps.proofs.Rules.{rules-on, no-number}
 use Rattle.steps.proofs.opens.open_step.Statement.{statement}
 use Rattle.steps.proofs.opens.open_step.Tie as tie
 

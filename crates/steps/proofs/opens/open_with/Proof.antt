@@ -9,8 +9,7 @@ open-at-requires : tie.Need-open-at-requires
 open-at-requires c κs =
     let d = c .before .before .before .before in
     let p = d .args .points in
-    let xs = d .args .floats .now in
-    (
+    let xs = d .args .floats .now in (
       d .pre .0,
       (
         d .pre .1 .0,

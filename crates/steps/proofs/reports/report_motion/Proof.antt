@@ -1,7 +1,6 @@
 -- `steps::reports::report_motion` meets its contract: a position and a velocity in range have reports.
 use Prim.Native.Nat.{_≤_, _^_}
-use native.Mathlib.Omega.{arith}
-use lib.IntN.{ℤ, natAbs}
+use lib.IntN.{natAbs}
 use mathlib.Core.Path.{_≡_}
 use mathlib.Core.Bool.{true}
 use Rattle.integers.specs.Tests.{joined}

@@ -1,5 +1,5 @@
 -- `steps::withdraws::withdraw_step` meets its contract: refused by 7, or settled again.
-use mathlib.Core.Path.{sym, ap, _∙_}
+use mathlib.Core.Path.{sym, ap}
 use Rattle.integers.specs.Tests.{failed, passed}
 use Rattle.steps.specs.Steps.{withdrawBy, withdrawOf}
 use Rattle.steps.proofs.Refusals.{withdraw-7, withdraw-0}
