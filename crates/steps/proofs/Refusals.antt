@@ -24,6 +24,14 @@ use Rattle.steps.specs.Refusals.{openRules, openRefusal, full, predictRu
 use Rattle.steps.specs.Unrefused.{Openable, Predictable, Correctable}
 use Rattle.steps.proofs.Rules.{Among, among, rules-on, faultless}
 
+-- some float is a NaN or an infinity
+abbrev unfit : List Float → Bool
+unfit xs = any isNotANumber xs || any isInfinite xs
+
+-- some float rounds to too many ticks
+abbrev large : List Float → Bool
+large xs = any isTooLarge xs
+
 -- ---- open
 
 module _ (p tolerance limit : ℕ) (start : Start) (floats : List Float) where
@@ -45,12 +53,6 @@ module _ (p tolerance limit : ℕ) (start : Start) (floats : List Float) where
   abbrev range : Bool
   range = pointInRange (wholePoint start)
 
-  abbrev unfit : Bool
-  unfit = any isNotANumber floats || any isInfinite floats
-
-  abbrev large : Bool
-  large = any isTooLarge floats
-
   pub open-1 : (number ≡ 1) ↔ (points ≡ false)
   unfolding openRefusal
   open-1 = simp joined at (rule-applies 1 rules refl)
@@ -67,11 +69,11 @@ module _ (p tolerance limit : ℕ) (start : Start) (floats : List Float) where
   unfolding openRefusal
   open-6 = simp joined at (rule-applies 6 rules refl)
 
-  pub open-4 : (number ≡ 4) ↔ ((points ≡ true) × ((enough ≡ true) × ((settings ≡ true) × ((range ≡ true) × (unfit ≡ true)))))
+  pub open-4 : (number ≡ 4) ↔ ((points ≡ true) × ((enough ≡ true) × ((settings ≡ true) × ((range ≡ true) × (unfit floats ≡ true)))))
   unfolding openRefusal
   open-4 = simp joined at (rule-applies 4 rules refl)
 
-  pub open-5 : (number ≡ 5) ↔ ((points ≡ true) × ((enough ≡ true) × ((settings ≡ true) × ((range ≡ true) × ((unfit ≡ false) × (large ≡ true))))))
+  pub open-5 : (number ≡ 5) ↔ ((points ≡ true) × ((enough ≡ true) × ((settings ≡ true) × ((range ≡ true) × ((unfit floats ≡ false) × (large floats ≡ true))))))
   unfolding openRefusal
   open-5 = simp joined at (rule-applies 5 rules refl)
 
@@ -115,12 +117,6 @@ module _ (s : Session) where
 -- ---- correct
 
 module _ (s : Session) (a : Sample) where
-  abbrev unfit : Bool
-  unfit = any isNotANumber (axesOf a) || any isInfinite (axesOf a)
-
-  abbrev large : Bool
-  large = any isTooLarge (axesOf a)
-
   abbrev corrected : Point
   corrected = correctedPoint s (wholeOf a)
 
@@ -128,19 +124,19 @@ module _ (s : Session) (a : Sample) where
   unfolding correctRefusal
   correct-7 = simp joined at (rule-applies 7 (correctRules s a) refl)
 
-  pub correct-4 : (correctRefusal s a ≡ 4) ↔ ((awaiting s ≡ true) × (unfit ≡ true))
+  pub correct-4 : (correctRefusal s a ≡ 4) ↔ ((awaiting s ≡ true) × (unfit (axesOf a) ≡ true))
   unfolding correctRefusal
   correct-4 = simp joined at (rule-applies 4 (correctRules s a) refl)
 
-  pub correct-5 : (correctRefusal s a ≡ 5) ↔ ((awaiting s ≡ true) × ((unfit ≡ false) × (large ≡ true)))
+  pub correct-5 : (correctRefusal s a ≡ 5) ↔ ((awaiting s ≡ true) × ((unfit (axesOf a) ≡ false) × (large (axesOf a) ≡ true)))
   unfolding correctRefusal
   correct-5 = simp joined at (rule-applies 5 (correctRules s a) refl)
 
-  pub correct-6 : (correctRefusal s a ≡ 6) ↔ ((awaiting s ≡ true) × ((unfit ≡ false) × ((large ≡ false) × (pointInRange corrected ≡ false))))
+  pub correct-6 : (correctRefusal s a ≡ 6) ↔ ((awaiting s ≡ true) × ((unfit (axesOf a) ≡ false) × ((large (axesOf a) ≡ false) × (pointInRange corrected ≡ false))))
   unfolding correctRefusal
   correct-6 = simp joined at (rule-applies 6 (correctRules s a) refl)
 
-  pub correct-8 : (correctRefusal s a ≡ 8) ↔ ((awaiting s ≡ true) × ((unfit ≡ false) × ((large ≡ false) × ((pointInRange corrected ≡ true) × ((agrees s corrected ≡ false) × (isLast s ≡ true))))))
+  pub correct-8 : (correctRefusal s a ≡ 8) ↔ ((awaiting s ≡ true) × ((unfit (axesOf a) ≡ false) × ((large (axesOf a) ≡ false) × ((pointInRange corrected ≡ true) × ((agrees s corrected ≡ false) × (isLast s ≡ true))))))
   unfolding correctRefusal
   correct-8 = simp joined at (rule-applies 8 (correctRules s a) refl)
 
