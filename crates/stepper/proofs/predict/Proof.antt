@@ -2,8 +2,8 @@
 use mathlib.Core.Path.{refl}
 use contract.Monad.{factI}
 use Rattle.lending.proofs.Call.{call-spec}
-use Rattle.steps.proofs.predicts.predict_step.Symbol as step
-use Rattle.steps.proofs.predicts.predict_step.Met as step-met
+use Rattle.steps.proofs.predict_step.Symbol as step
+use Rattle.steps.proofs.predict_step.Met as step-met
 use Rattle.stepper.proofs.Plans.{predicts}
 use Rattle.stepper.proofs.predict as promise
 use Rattle.stepper.proofs.predict.Key as key
@@ -14,4 +14,4 @@ pub predict-spec : {M : Type 1} → stated.statement M
 unfolding code.routine
 predict-spec 𝓤 H 𝓜 𝓖 𝓡 =
     call-spec predicts 𝓤 H 𝓜 𝓖 𝓡 (promise.clauses 𝓤 H (𝓖 .A) (𝓜 .mem) (𝓡 .run)) (λ κs a _. factI 𝓤 _ _ (refl, refl))
-    code.env key.name step.name (code.unfolded 𝓤 H 𝓜 𝓡) step.routine code.calls-steps·predicts·predict-step (step-met.met 𝓤 H 𝓜 𝓖 𝓡)
+    code.env key.name step.name (code.unfolded 𝓤 H 𝓜 𝓡) step.routine code.calls-steps·predict-step (step-met.met 𝓤 H 𝓜 𝓖 𝓡)

@@ -2,8 +2,8 @@
 use mathlib.Core.Path.{refl}
 use contract.Monad.{factI}
 use Rattle.lending.proofs.Call.{call-spec}
-use Rattle.steps.proofs.withdraws.withdraw_step.Symbol as step
-use Rattle.steps.proofs.withdraws.withdraw_step.Met as step-met
+use Rattle.steps.proofs.withdraw_step.Symbol as step
+use Rattle.steps.proofs.withdraw_step.Met as step-met
 use Rattle.stepper.proofs.Plans.{withdraws}
 use Rattle.stepper.proofs.withdraw as promise
 use Rattle.stepper.proofs.withdraw.Key as key
@@ -14,4 +14,4 @@ pub withdraw-spec : {M : Type 1} → stated.statement M
 unfolding code.routine
 withdraw-spec 𝓤 H 𝓜 𝓖 𝓡 =
     call-spec withdraws 𝓤 H 𝓜 𝓖 𝓡 (promise.clauses 𝓤 H (𝓖 .A) (𝓜 .mem) (𝓡 .run)) (λ κs a _. factI 𝓤 _ _ (refl, refl))
-    code.env key.name step.name (code.unfolded 𝓤 H 𝓜 𝓡) step.routine code.calls-steps·withdraws·withdraw-step (step-met.met 𝓤 H 𝓜 𝓖 𝓡)
+    code.env key.name step.name (code.unfolded 𝓤 H 𝓜 𝓡) step.routine code.calls-steps·withdraw-step (step-met.met 𝓤 H 𝓜 𝓖 𝓡)
