@@ -1,0 +1,5 @@
+-- What the contracts of `axis` cite.
+pub mod Formulas
+pub mod Estimates
+pub mod Holding
+pub mod Ready

@@ -1,0 +1,34 @@
+// One axis of a session: its sums and samples, the points that they give, and whether they keep the rules.
+use exact::Exact;
+
+mod estimates;
+mod formulas;
+mod holding;
+
+pub use estimates::agrees_on;
+pub use estimates::change;
+pub use estimates::in_range;
+pub use estimates::same_motion;
+pub use estimates::with_estimate;
+pub use formulas::advanced_axis;
+pub use formulas::corrected_motion;
+pub use formulas::empty_axis;
+pub use formulas::no_motion;
+pub use formulas::opened_axis;
+pub use formulas::predicted_motion;
+pub use formulas::present_motion;
+pub use holding::axis_holds;
+
+// A position and its velocity.
+pub struct Motion {
+    pub position: Exact,
+    pub velocity: Exact,
+}
+
+// S1 and S2 at the last accepted point, the samples, newest first, and the last estimate.
+pub struct Axis {
+    pub first: Exact,
+    pub second: Exact,
+    pub samples: [i64; 9],
+    pub estimate: Motion,
+}

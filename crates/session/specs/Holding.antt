@@ -1,0 +1,70 @@
+-- Which records count as open. A host can fill a record by itself: one that breaks a clause here counts as closed. Definitions only.
+use mathlib.Core.Bool.{Bool, true, false, not, _||_}
+use lib.Dec.{eqb, leb, ltb}
+use Rattle.integers.specs.Tests.{_and_}
+use Rattle.axis.specs.declared.Axis.{Axis}
+use Rattle.axis.specs.Estimates.{sameMotion}
+use Rattle.axis.specs.Holding.{remaindersHold, samplesSmall, emptyZero}
+use Rattle.session.specs.declared.Point.{Point}
+use Rattle.session.specs.declared.Session.{Session}
+use Rattle.session.specs.declared.State.{State}
+use Rattle.session.specs.declared.State.the-variants.{Closed, Settled, Awaiting}
+use Rattle.session.specs.Numbers.{pointsHold, settingsHold, mostPoints}
+use Rattle.session.specs.Moves.{nowhere, presentPoint, estimateOf, predictedPoint, pointInRange}
+
+abbrev pub everyAxis : Session → (Axis → Bool) → Bool
+everyAxis s test = test (s .x) and test (s .y) and test (s .z)
+
+-- p, the tolerance, the limit and the accepted points keep to their numbers
+unfoldable pub countsHold : Session → Bool
+countsHold s = pointsHold (s .points) and settingsHold (s .tolerance) (s .limit) and leb (s .accepted) mostPoints
+
+-- all six values are the same
+unfoldable pub samePoint : Point → Point → Bool
+samePoint q r = sameMotion (q .x) (r .x) and sameMotion (q .y) (r .y) and sameMotion (q .z) (r .z)
+
+-- a settled record has no estimate and no count
+unfoldable pub settledHolds : Session → Bool
+settledHolds s = samePoint (estimateOf s) nowhere and eqb (s .corrections) 0
+
+-- while no correction is counted, the estimate is the prediction
+unfoldable pub estimateBegins : Session → Bool
+estimateBegins s = not (eqb (s .corrections) 0) || samePoint (estimateOf s) (predictedPoint s)
+
+-- an awaiting one has a count below the limit, an estimate that began at its prediction, and room for a point
+unfoldable pub awaitingHolds : Session → Bool
+awaitingHolds s = ltb (s .corrections) (s .limit) and estimateBegins s and ltb (s .accepted) mostPoints
+
+abbrev pub stateHolds : State → Session → Bool
+stateHolds Closed s = false
+stateHolds Settled s = settledHolds s
+stateHolds Awaiting s = awaitingHolds s
+
+-- the record is open: no field breaks the numbers, every remainder is from 0 to D - 1, the sums give a present point in range,
+-- the estimate is in range, every empty sample place is zero, and the state's own rules are kept
+unfoldable pub holds : Session → Bool
+holds s =
+    countsHold s
+    and everyAxis s (λ a. samplesSmall (a .samples))
+    and everyAxis s remaindersHold
+    and pointInRange (presentPoint s)
+    and pointInRange (estimateOf s)
+    and everyAxis s (λ a. emptyZero (s .points) (a .samples))
+    and stateHolds (s .state) s
+
+abbrev pub isSettled : State → Bool
+isSettled Closed = false
+isSettled Settled = true
+isSettled Awaiting = false
+
+abbrev pub isAwaiting : State → Bool
+isAwaiting Closed = false
+isAwaiting Settled = false
+isAwaiting Awaiting = true
+
+-- the record is open, and in the state that a call wants
+unfoldable pub settled : Session → Bool
+settled s = isSettled (s .state) and holds s
+
+unfoldable pub awaiting : Session → Bool
+awaiting s = isAwaiting (s .state) and holds s

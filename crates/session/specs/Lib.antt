@@ -1,0 +1,5 @@
+-- What the contracts of `session` cite.
+pub mod Numbers
+pub mod Moves
+pub mod Holding
+pub mod Ready

@@ -1,0 +1,45 @@
+// The record of a session: when it counts as open, and what the calls make of it.
+use axis::Axis;
+use axis::Motion;
+
+mod holding;
+mod moves;
+mod numbers;
+
+pub use holding::is_awaiting;
+pub use holding::is_open;
+pub use holding::is_settled;
+pub use moves::accept;
+pub use moves::await_at;
+pub use moves::closed;
+pub use moves::corrected_point;
+pub use moves::open_at;
+pub use moves::predicted_point;
+pub use moves::settle;
+pub use numbers::points_hold;
+pub use numbers::settings_hold;
+
+pub enum State {
+    Closed,
+    Settled,
+    Awaiting,
+}
+
+pub struct Session {
+    pub state: State,
+    pub points: usize,
+    pub tolerance: u64,
+    pub limit: u64,
+    pub accepted: u64,
+    pub corrections: u64,
+    pub x: Axis,
+    pub y: Axis,
+    pub z: Axis,
+}
+
+// A position and a velocity on each axis.
+pub struct Point {
+    pub x: Motion,
+    pub y: Motion,
+    pub z: Motion,
+}

@@ -1,0 +1,28 @@
+-- The figures H1 to H10 are what the definitions give, shown by computing.
+use mathlib.Core.Path.{refl}
+use lib.Ieee.{add, div, ofInt}
+use Rattle.integers.specs.Lines.{All}
+use Rattle.integers.specs.Tests.{firstOf}
+use Rattle.integers.specs.Differences.{byDifferences}
+use Rattle.exact.specs.Numerator.{exactOf, numerator, sameExact}
+use Rattle.coefficients.specs.Fraction.{times}
+use Rattle.coefficients.specs.Rules.{c, g, l, s, total, terms, next, divided}
+use Rattle.coefficients.specs.Scaled.{run}
+use Rattle.coefficients.specs.Formulas.{positionPredictor, positionCorrector, velocityPredictor, velocityCorrector, unsummedCowell}
+use Rattle.ticks.specs.Round.{roundedOf}
+use Rattle.ticks.specs.Samples.{any}
+use Rattle.axis.specs.Formulas.{motionOf, still, presentMotion, predictedMotion, correctedMotion, keptSamples, advancedAxis, openedAxis, emptyAxis}
+use Rattle.axis.specs.Estimates.{sameMotion, inRange, changeOf, agreesOn}
+use Rattle.axis.specs.Holding.{remaindersHold, samplesSmall, emptyZero}
+use Rattle.session.specs.Numbers.{pointsHold, settingsHold}
+use Rattle.session.specs.Moves.{nowhere, presentPoint, estimateOf, predictedPoint, correctedPoint, pointInRange, settledAgain, awaitingAt, acceptedAt, openedSession, closedSession}
+use Rattle.session.specs.Holding.{countsHold, samePoint, settledHolds, estimateBegins, awaitingHolds, holds, settled, awaiting}
+use Rattle.steps.specs.Answers.{reportedMotion, reportedPoint, reportedChange, noPoint, noChange}
+use Rattle.steps.specs.Opening.{wholePoint, axisSamples, openedWith}
+use Rattle.steps.specs.Refusals.{openRefusal, full, predictRefusal, agrees, largestChange, isLast, correctRefusal}
+use Rattle.steps.specs.Steps.{openOf, predictOf, correctOf}
+use Rattle.steps.specs.Figures.{figures}
+
+pub as-printed : All figures
+unfolding add div ofInt firstOf byDifferences exactOf numerator sameExact times c g l s total terms next divided run positionPredictor positionCorrector velocityPredictor velocityCorrector unsummedCowell roundedOf any motionOf still presentMotion predictedMotion correctedMotion keptSamples advancedAxis openedAxis emptyAxis sameMotion inRange changeOf agreesOn remaindersHold samplesSmall emptyZero pointsHold settingsHold nowhere presentPoint estimateOf predictedPoint correctedPoint pointInRange settledAgain awaitingAt acceptedAt openedSession closedSession countsHold samePoint settledHolds estimateBegins awaitingHolds holds settled awaiting reportedMotion reportedPoint reportedChange noPoint noChange wholePoint axisSamples openedWith openRefusal full predictRefusal agrees largestChange isLast correctRefusal openOf predictOf correctOf
+as-printed = (refl, (refl, (refl, (refl, (refl, (refl, (refl, (refl, (refl, (refl, (refl, (refl, (refl, (refl, (refl, (refl, (refl, (refl, (refl, (refl, (refl, (refl, (refl, (refl, (refl, (refl, (refl, (refl, (refl, (refl, (refl, (refl, tt))))))))))))))))))))))))))))))))

@@ -1,0 +1,103 @@
+-- Which number refuses a call: each call has its rules in the paper's order, and the first that applies gives its number, 0 if none does. Definitions only.
+use Prim.Native.Nat.{ℕ, max, _+_, _*_}
+use mathlib.Core.Bool.{Bool, not, _||_}
+use mathlib.Core.List.{List, [], _∷_, _++_}
+use lib.Dec.{eqb, leb}
+use lib.Ieee.{Float}
+use lib.ListN.{length}
+use Rattle.integers.specs.Tests.{_and_, firstOf}
+use Rattle.ticks.specs.declared.Fault.{Fault}
+use Rattle.ticks.specs.declared.Fault.the-variants.{Nothing, NotANumber, Infinite, TooLarge}
+use Rattle.ticks.specs.declared.Sample.{Sample}
+use Rattle.ticks.specs.Round.{isNotANumber, isInfinite, isTooLarge}
+use Rattle.ticks.specs.Samples.{any, axesOf, wholeOf}
+use Rattle.axis.specs.Estimates.{changeOf, agreesOn}
+use Rattle.session.specs.declared.Point.{Point}
+use Rattle.session.specs.declared.Session.{Session}
+use Rattle.session.specs.Numbers.{pointsHold, settingsHold, mostPoints}
+use Rattle.session.specs.Moves.{predictedPoint, correctedPoint, pointInRange}
+use Rattle.session.specs.Holding.{settled, awaiting}
+use Rattle.steps.specs.declared.Start.{Start}
+use Rattle.steps.specs.Opening.{wholePoint}
+
+-- ---- samples: all of them are looked at for 4 before any is for 5
+
+abbrev pub sampleRules : List Float → List (Bool × ℕ)
+sampleRules xs =
+    (any isNotANumber xs || any isInfinite xs, 4)
+    ∷ (any isTooLarge xs, 5)
+    ∷ []
+
+-- the same of the first fault
+abbrev pub faultNumber : Fault → ℕ
+faultNumber Nothing = 0
+faultNumber NotANumber = 4
+faultNumber Infinite = 4
+faultNumber TooLarge = 5
+
+-- ---- open
+
+abbrev pub openRules : ℕ → ℕ → ℕ → Start → List Float → List (Bool × ℕ)
+openRules p tolerance limit start floats =
+    (not (pointsHold p), 1)
+    ∷ (not (eqb (length floats) (3 * p)), 2)
+    ∷ (not (settingsHold tolerance limit), 3)
+    ∷ (not (pointInRange (wholePoint start)), 6)
+    ∷ sampleRules floats
+
+unfoldable pub openRefusal : ℕ → ℕ → ℕ → Start → List Float → ℕ
+openRefusal p tolerance limit start floats = firstOf (openRules p tolerance limit start floats)
+
+-- ---- predict
+
+-- no further point is accepted
+unfoldable pub full : Session → Bool
+full s = leb mostPoints (s .accepted)
+
+abbrev pub predictRules : Session → List (Bool × ℕ)
+predictRules s =
+    (not (settled s), 7)
+    ∷ (full s, 9)
+    ∷ (not (pointInRange (predictedPoint s)), 6)
+    ∷ []
+
+unfoldable pub predictRefusal : Session → ℕ
+predictRefusal s = firstOf (predictRules s)
+
+-- ---- correct
+
+-- on each axis the change from the last estimate is at most the tolerance
+unfoldable pub agrees : Session → Point → Bool
+agrees s q =
+    agreesOn (s .tolerance) (q .x) (s .x .estimate)
+    and agreesOn (s .tolerance) (q .y) (s .y .estimate)
+    and agreesOn (s .tolerance) (q .z) (s .z .estimate)
+
+-- the largest change of an axis
+unfoldable pub largestChange : Session → Point → ℕ
+largestChange s q = max (changeOf (q .x) (s .x .estimate)) (max (changeOf (q .y) (s .y .estimate)) (changeOf (q .z) (s .z .estimate)))
+
+-- this correction is the last that the limit allows
+unfoldable pub isLast : Session → Bool
+isLast s = leb (s .limit) (s .corrections + 1)
+
+-- the corrected point
+abbrev pub pointRules : Session → Point → List (Bool × ℕ)
+pointRules s q =
+    (not (pointInRange q), 6)
+    ∷ (not (agrees s q) and isLast s, 8)
+    ∷ []
+
+abbrev pub correctRules : Session → Sample → List (Bool × ℕ)
+correctRules s a = (not (awaiting s), 7) ∷ (sampleRules (axesOf a) ++ pointRules s (correctedPoint s (wholeOf a)))
+
+unfoldable pub correctRefusal : Session → Sample → ℕ
+correctRefusal s a = firstOf (correctRules s a)
+
+-- ---- withdraw
+
+abbrev pub withdrawRules : Session → List (Bool × ℕ)
+withdrawRules s = (not (awaiting s), 7) ∷ []
+
+unfoldable pub withdrawRefusal : Session → ℕ
+withdrawRefusal s = firstOf (withdrawRules s)

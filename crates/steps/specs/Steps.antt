@@ -1,0 +1,66 @@
+-- The four calls: the record and the answer that each gives. Definitions only.
+use Prim.Native.Nat.{ℕ, zero, suc, _+_}
+use mathlib.Core.Bool.{Bool, true, false, cond}
+use mathlib.Core.List.{List}
+use lib.Dec.{eqb}
+use lib.Ieee.{Float}
+use Rattle.ticks.specs.declared.Sample.{Sample}
+use Rattle.ticks.specs.declared.WholeSample.{WholeSample}
+use Rattle.ticks.specs.Samples.{wholeOf}
+use Rattle.session.specs.declared.Point.{Point}
+use Rattle.session.specs.declared.Session.{Session}
+use Rattle.session.specs.Moves.{predictedPoint, correctedPoint, settledAgain, awaitingAt, acceptedAt, closedSession}
+use Rattle.steps.specs.declared.Start.{Start}
+use Rattle.steps.specs.declared.AfterOpen.{AfterOpen}
+use Rattle.steps.specs.declared.AfterPredict.{AfterPredict}
+use Rattle.steps.specs.declared.AfterCorrect.{AfterCorrect}
+use Rattle.steps.specs.declared.AfterWithdraw.{AfterWithdraw}
+use Rattle.steps.specs.declared.Opening.the-variants as O
+use Rattle.steps.specs.declared.Prediction.the-variants as P
+use Rattle.steps.specs.declared.Correction.the-variants as C
+use Rattle.steps.specs.declared.Withdrawal.the-variants as W
+use Rattle.steps.specs.Answers.{reportedPoint, reportedChange}
+use Rattle.steps.specs.Opening.{wholePoint, openedWith}
+use Rattle.steps.specs.Refusals.{openRefusal, predictRefusal, correctRefusal, withdrawRefusal, agrees, largestChange}
+
+-- ---- open: whatever the record held before
+
+abbrev pub openBy : ℕ → ℕ → ℕ → ℕ → Start → List Float → AfterOpen
+openBy zero p tolerance limit start floats = record { session = openedWith p tolerance limit (wholePoint start) floats; answer = O.Opened }
+openBy (suc n) p tolerance limit start floats = record { session = closedSession; answer = O.Refused (suc n) }
+
+unfoldable pub openOf : ℕ → ℕ → ℕ → Start → List Float → AfterOpen
+openOf p tolerance limit start floats = openBy (openRefusal p tolerance limit start floats) p tolerance limit start floats
+
+-- ---- predict
+
+abbrev pub predictBy : ℕ → Session → AfterPredict
+predictBy zero s = record { session = awaitingAt s 0 (predictedPoint s); answer = P.Predicted (reportedPoint (predictedPoint s)) }
+predictBy (suc n) s = record { session = s; answer = P.Refused (suc n) }
+
+unfoldable pub predictOf : Session → AfterPredict
+predictOf s = predictBy (predictRefusal s) s
+
+-- ---- correct
+
+-- the point agrees with the last estimate, and is accepted, or does not, and is to be corrected again
+abbrev pub judged : Bool → Session → WholeSample → Point → AfterCorrect
+judged true s w q = record { session = acceptedAt s w; answer = C.Accepted (reportedPoint q) }
+judged false s w q = record { session = awaitingAt s (s .corrections + 1) q; answer = C.Again (reportedPoint q) (reportedChange (largestChange s q)) }
+
+-- 8 ends the wait; every other refusal leaves the record as it was
+abbrev pub correctBy : ℕ → Session → WholeSample → AfterCorrect
+correctBy zero s w = judged (agrees s (correctedPoint s w)) s w (correctedPoint s w)
+correctBy (suc n) s w = record { session = cond (eqb (suc n) 8) (settledAgain s) s; answer = C.Refused (suc n) }
+
+unfoldable pub correctOf : Session → Sample → AfterCorrect
+correctOf s a = correctBy (correctRefusal s a) s (wholeOf a)
+
+-- ---- withdraw
+
+abbrev pub withdrawBy : ℕ → Session → AfterWithdraw
+withdrawBy zero s = record { session = settledAgain s; answer = W.Withdrawn }
+withdrawBy (suc n) s = record { session = s; answer = W.Refused (suc n) }
+
+unfoldable pub withdrawOf : Session → AfterWithdraw
+withdrawOf s = withdrawBy (withdrawRefusal s) s

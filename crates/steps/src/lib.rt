@@ -1,0 +1,79 @@
+// The calls on a session by value: each takes a record and returns it as the call leaves it, beside the answer.
+use exact::Reported;
+use session::Session;
+
+mod checks;
+mod corrects;
+mod opens;
+mod predicts;
+mod reports;
+mod withdraws;
+
+pub use corrects::correct_step;
+pub use opens::open_step;
+pub use predicts::predict_step;
+pub use withdraws::withdraw_step;
+
+// A position and a velocity, each beside its report.
+pub struct ReportedMotion {
+    pub position: Reported,
+    pub velocity: Reported,
+}
+
+pub struct ReportedPoint {
+    pub x: ReportedMotion,
+    pub y: ReportedMotion,
+    pub z: ReportedMotion,
+}
+
+// Whole positions and velocities to open at.
+pub struct Start {
+    pub x: i64,
+    pub y: i64,
+    pub z: i64,
+    pub vx: i64,
+    pub vy: i64,
+    pub vz: i64,
+}
+
+pub enum Opening {
+    Opened,
+    Refused(u8),
+}
+
+pub enum Prediction {
+    Predicted(ReportedPoint),
+    Refused(u8),
+}
+
+// A point, an estimate and the largest change, or a refusal's number.
+pub enum Correction {
+    Accepted(ReportedPoint),
+    Again(ReportedPoint, Reported),
+    Refused(u8),
+}
+
+pub enum Withdrawal {
+    Withdrawn,
+    Refused(u8),
+}
+
+pub struct AfterOpen {
+    pub session: Session,
+    pub answer: Opening,
+}
+
+pub struct AfterPredict {
+    pub session: Session,
+    pub answer: Prediction,
+}
+
+pub struct AfterCorrect {
+    pub session: Session,
+    pub answer: Correction,
+}
+
+pub struct AfterWithdraw {
+    pub session: Session,
+    pub answer: Withdrawal,
+}
