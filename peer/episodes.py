@@ -1,0 +1,356 @@
+"""Draws scripts of calls from episodes, each of which leads to some corner of the rules."""
+from drawing import *
+from spoiling import spoilt
+
+# One script in so many steps sessions; the others end soon by a line that is no call.
+SESSION_EVERY = 8
+
+
+class Episodes(Script):
+    """A script drawn episode by episode."""
+
+    # Sessions
+
+    def opening(self, points=None):
+        """The parts of an opening that is not refused."""
+        rng = self.rng
+        self.scale = max(1, self.size(SAMPLE_MOST - 1))
+        points = points or rng.randint(1, PLACES)
+        return [points, rng.choice((0, 0, self.size(TOLERANCE_MOST), TOLERANCE_MOST)),
+                rng.randint(1, LIMIT_MOST),
+                [self.signed(2 ** 51) for _ in AXES], [self.signed(2 ** 38) for _ in AXES],
+                [self.usable_float() for _ in range(3 * points)]]
+
+    def open(self, opening=None):
+        return self.call(open_line(*(opening or self.opening())))
+
+    def steps(self, count, plain=0.85):
+        """Steps a session, mostly by calls that fit its state."""
+        rng = self.rng
+        for _ in range(count):
+            if self.state == CLOSED:
+                self.open()
+            elif rng.random() > plain:
+                self.any_call()
+            elif self.state == AWAITING:
+                self.correct()
+            elif self.call('predict').number != 0:
+                self.open()
+
+    def correct(self):
+        """Corrects by a new sample, by the last one again, or by one at the tolerance."""
+        choice = self.rng.random()
+        if self.last_sample is None or choice < 0.5:
+            self.last_sample = self.sample()
+        elif choice < 0.6:
+            record = self.record()
+            # One point: the change is a twelfth of the change of sample.
+            apart = self.near(12 * record[TOLERANCE])
+            ticks = [record[axis_at(a, SAMPLES)] + self.rng.choice((-apart, 0, apart)) for a in AXES]
+            self.last_sample = [bits(float(t)) for t in ticks]
+        return self.call(correct_line(self.last_sample))
+
+    def any_call(self):
+        kind = self.rng.randrange(6)
+        if kind == 0:
+            self.call('withdraw')
+        elif kind == 1:
+            self.call('predict')
+        elif kind == 2:
+            self.call(correct_line(self.sample()))
+        else:
+            words = self.sample()
+            for _ in range(self.rng.randint(1, 2)):
+                words[self.rng.randrange(3)] = self.some_float()
+            self.call(correct_line(words))
+
+    def fitting_call(self):
+        """Mostly a call that fits the state."""
+        if self.rng.random() < 0.1:
+            self.any_call()
+        elif self.state == SETTLED:
+            self.call('predict')
+        elif self.rng.random() < 0.3:
+            self.call('withdraw')
+        else:
+            self.call(correct_line(self.last_sample or self.sample()))
+
+    # Episodes
+
+    def session(self):
+        self.open()
+        self.steps(self.rng.randint(5, 60))
+
+    def long_run(self):
+        self.open()
+        self.steps(self.rng.choice((300, 2000)), 0.99)
+
+    def every_number_of_points(self):
+        for points in self.rng.sample(range(1, PLACES + 1), PLACES):
+            self.open(self.opening(points))
+            self.steps(self.rng.randint(4, 12), 0.95)
+
+    def floats(self):
+        """Openings whose samples show the rounding of floats of every kind."""
+        for _ in range(10):
+            opening = self.opening()
+            words = opening[5]
+            for at in range(len(words)):
+                if self.rng.random() < 0.5:
+                    value = self.some_float()
+                    size = abs(struct.unpack('>d', bytes.fromhex(value))[0])
+                    if size <= SAMPLE_MOST + 0.5 or self.rng.random() < 0.02:
+                        words[at] = value
+            self.open(opening)
+
+    def refused_openings(self):
+        """Openings with one fault or some."""
+        rng = self.rng
+        for _ in range(10):
+            o = self.opening()
+            for _ in range(rng.choice((1, 1, 1, 2, 3))):
+                fault = rng.randrange(7)
+                if fault == 0:
+                    o[0] = rng.choice((0, 10, 11, 21, 22, (2 ** 64 + 2) // 3, *UNSIGNED))
+                elif fault == 1:
+                    length = rng.choice((0, len(o[5]) - 1, len(o[5]) + 1, 3 * rng.randint(1, 9), 64))
+                    o[5] = [rng.choice(o[5] or [bits(0.0)]) for _ in range(min(length, 64))]
+                elif fault == 2:
+                    o[1] = rng.choice((TOLERANCE_MOST, TOLERANCE_MOST + 1, *UNSIGNED))
+                elif fault == 3:
+                    o[2] = rng.choice((0, 1, LIMIT_MOST, LIMIT_MOST + 1, *UNSIGNED))
+                elif fault == 4:
+                    o[3][rng.randrange(3)] = self.at_bound(POSITION_BOUND)
+                elif fault == 5:
+                    o[4][rng.randrange(3)] = self.at_bound(VELOCITY_BOUND)
+                elif o[5]:
+                    o[5][rng.randrange(len(o[5]))] = self.some_float()
+            self.open(o)
+
+    def at_bound(self, bound):
+        return self.rng.choice((-bound - 1, -bound, -bound + 1, bound - 1, bound, bound + 1,
+                                self.rng.choice(SIGNED)))
+
+    def far_out(self):
+        """Sessions that step across a bound of position or velocity."""
+        o = self.opening()
+        for axis in AXES:
+            if self.rng.random() < 0.5:
+                side = self.rng.choice((-1, 1))
+                o[4][axis] = side * self.size(VELOCITY_BOUND - 1)
+                steps = self.rng.randint(0, 4)
+                o[3][axis] = side * (POSITION_BOUND - 1 - abs(o[4][axis]) * steps
+                                     - self.size(self.scale))
+            elif self.rng.random() < 0.5:
+                o[4][axis] = self.rng.choice((-1, 1)) * (VELOCITY_BOUND - 1 - self.size(self.scale))
+        self.open(o)
+        self.steps(12, 0.95)
+
+    def some_record(self, states):
+        """A record that a call has left in one of the states, with its present point if known."""
+        found = [entry for entry in self.seen if int(entry[0][7:8]) in states]
+        if found:
+            line, present = self.rng.choice(found)
+            return record_fields(line), present
+        self.open()
+        if AWAITING in states and self.state == SETTLED:
+            self.call('predict')
+        return self.record(), self.present
+
+    def nearly_right(self):
+        """Records with one field off."""
+        for _ in range(10):
+            record, _ = self.some_record((SETTLED, AWAITING))
+            at = self.rng.choice((self.rng.randrange(FIRST_AXIS), self.rng.randrange(len(record)),
+                                  axis_at(self.rng.choice(AXES), self.rng.choice(PART_PLACES))))
+            record[at] = self.changed(record, at)
+            self.fill(record)
+            self.fitting_call()
+
+    def changed(self, record, at):
+        """Another value for the field."""
+        rng, old = self.rng, record[at]
+        if at == STATE:
+            return rng.choice((CLOSED, SETTLED, AWAITING))
+        if at < FIRST_AXIS:
+            edges = {POINTS: (0, 1, 9, 10), TOLERANCE: (TOLERANCE_MOST, TOLERANCE_MOST + 1),
+                     LIMIT: (0, 1, 8, 9, record[CORRECTIONS], record[CORRECTIONS] + 1),
+                     ACCEPTED: (ACCEPTED_MOST - 1, ACCEPTED_MOST, ACCEPTED_MOST + 1),
+                     CORRECTIONS: (0, 1, max(0, record[LIMIT] - 1), record[LIMIT])}
+            return rng.choice((max(0, old - 1), min(U64, old + 1), rng.choice(UNSIGNED),
+                               *edges[at]))
+        place = (at - FIRST_AXIS) % AXIS_LENGTH
+        if SAMPLES <= place < POSITION:
+            if place - SAMPLES >= record[POINTS] and rng.random() < 0.7:
+                return rng.choice((1, -1, self.signed(SAMPLE_MOST)))
+        elif place in PART_PLACES:
+            return rng.choice(((old + 1) % PARTS, (old - 1) % PARTS, min(U32, old + PARTS),
+                               PARTS, rng.choice(PART), rng.randrange(PARTS)))
+        moved = old + rng.choice((-1, 1)) * rng.choice((1, 1, self.size(POSITION_BOUND)))
+        return max(-I64 - 1, min(I64, rng.choice((moved, moved, -old, rng.choice(SIGNED)))))
+
+    def move(self, record, axis, what, by):
+        """Adds parts to an exact value of a record, if the result has a whole of 64 bits."""
+        at = axis_at(axis, what)
+        number = record[at] * PARTS + record[at + 1] + by
+        if abs(number // PARTS) < I64:
+            record[at], record[at + 1] = divmod(number, PARTS)
+
+    def shift(self, record, axis, position, velocity):
+        """Moves every point of the axis by so many parts, later ones also by the velocity's."""
+        self.move(record, axis, FIRST_SUM, velocity)
+        self.move(record, axis, SECOND_SUM, position + velocity)
+        if record[STATE] == AWAITING:
+            self.move(record, axis, POSITION, position + velocity)
+            self.move(record, axis, VELOCITY, velocity)
+
+    def bound_parts(self, bound):
+        """A bound in parts, or just beside it."""
+        return (self.rng.choice((-bound, bound)) * PARTS
+                + self.rng.choice((-PARTS, -1, -1, 0, 0, 1, PARTS)))
+
+    def moved_to_bounds(self):
+        """Records moved so that a present, predicted or corrected value lies at a bound."""
+        rng = self.rng
+        for _ in range(5):
+            record, present = self.some_record((SETTLED, AWAITING))
+            axis = rng.randrange(3)
+            self.last_sample = self.sample()
+            if present is None or rng.random() < 0.6:
+                self.fill(record)
+                answer = (self.call('predict') if self.state == SETTLED
+                          else self.call(correct_line(self.last_sample)))
+                if answer.number != 0:
+                    continue
+                found = (answer.position(axis), answer.velocity(axis))
+            else:
+                found = present[axis]
+            if rng.random() < 0.5:
+                self.shift(record, axis, self.bound_parts(POSITION_BOUND) - found[0], 0)
+            else:
+                by = self.bound_parts(VELOCITY_BOUND) - found[1]
+                self.shift(record, axis, -by if rng.random() < 0.5 else 0, by)
+            self.fill(record)
+            self.fitting_call()
+            self.fitting_call()
+
+    def at_tolerance(self):
+        """Corrections whose change is the tolerance or a part beside it."""
+        rng = self.rng
+        record, _ = self.some_record((AWAITING,))
+        if record[STATE] != AWAITING:
+            return
+        record[LIMIT], record[CORRECTIONS] = LIMIT_MOST, rng.randint(1, LIMIT_MOST - 2)
+        sample = self.last_sample = self.sample()
+        self.fill(record)
+        answer = self.call(correct_line(sample))
+        if answer.number != 0:
+            return
+        for _ in range(5):
+            record[TOLERANCE] = rng.choice((record[TOLERANCE], 0, self.size(TOLERANCE_MOST),
+                                            TOLERANCE_MOST))
+            record[LIMIT] = rng.choice((LIMIT_MOST, record[CORRECTIONS] + 1,
+                                        record[CORRECTIONS] + 2))
+            edge = record[TOLERANCE] * PARTS
+            odd = rng.randrange(3)
+            for axis in AXES:
+                apart = edge - rng.choice((0, 0, self.size(edge)))
+                if axis == odd:
+                    apart = edge + rng.choice((-PARTS, -1, 0, 0, 1, 1, PARTS, self.size(2 ** 80)))
+                at = axis_at(axis, POSITION)
+                record[at:at + 2] = divmod(answer.position(axis) + rng.choice((-apart, apart)),
+                                           PARTS)
+            self.fill(record)
+            self.call(correct_line(sample))
+
+    def at_last_point(self):
+        """Sessions at and about the largest number of accepted points."""
+        record, _ = self.some_record((SETTLED, AWAITING))
+        record[ACCEPTED] = ACCEPTED_MOST - self.rng.choice((-1, 0, 1, 1, 2))
+        self.fill(record)
+        for _ in range(8):
+            self.fitting_call()
+
+    def random_record(self, state):
+        """A record with every field in its range, whether or not they fit together."""
+        rng = self.rng
+        points, limit = rng.randint(1, PLACES), rng.randint(1, LIMIT_MOST)
+        waits = state == AWAITING
+        record = [state, points, self.size(TOLERANCE_MOST), limit,
+                  rng.choice((self.size(ACCEPTED_MOST), ACCEPTED_MOST)) if not waits
+                  else self.size(ACCEPTED_MOST - 1),
+                  rng.randrange(limit) if waits else 0]
+        scale = max(1, self.size(SAMPLE_MOST))
+        for _ in AXES:
+            record += [self.signed(VELOCITY_BOUND - 1), rng.randrange(PARTS),
+                       self.signed(POSITION_BOUND - 1), rng.randrange(PARTS)]
+            record += [rng.randint(-scale, scale) if i < points else 0 for i in range(PLACES)]
+            for bound in (POSITION_BOUND, VELOCITY_BOUND):
+                record += [self.signed(bound - 1), rng.randrange(PARTS)] if waits else [0, 0]
+        return record
+
+    def random_fills(self):
+        """Records filled at random, within their ranges or not at all."""
+        rng = self.rng
+        for _ in range(5):
+            record = self.random_record(rng.choice((SETTLED, AWAITING)))
+            kind = rng.randrange(3)
+            if kind == 0:
+                for _ in range(rng.randint(1, 4)):
+                    at = rng.randrange(len(record))
+                    record[at] = self.changed(record, at)
+            elif kind == 1 and rng.random() < 0.5:
+                record = self.wild_record()
+            self.fill(record)
+            for _ in range(rng.randint(1, 4)):
+                self.fitting_call()
+
+    def wild_record(self):
+        rng = self.rng
+
+        def number(edges, most, least=0):
+            return rng.choice((rng.choice(edges), rng.randint(least, most)))
+        record = [rng.randrange(3)] + [number(UNSIGNED, U64) for _ in range(5)]
+        for _ in AXES:
+            exact = [[number(SIGNED, I64, -I64 - 1), number(PART, U32)] for _ in range(4)]
+            samples = [number(SIGNED, I64, -I64 - 1) for _ in range(PLACES)]
+            record += exact[0] + exact[1] + samples + exact[2] + exact[3]
+        return record
+
+    ALL = [session, session, session, every_number_of_points, floats, refused_openings,
+                far_out, nearly_right, nearly_right, moved_to_bounds, moved_to_bounds,
+                at_tolerance, at_tolerance, at_last_point, random_fills]
+
+
+def session_script(script, index):
+    """Episodes up to some length, and at times a line at the end that is no call."""
+    rng = script.rng
+    if index % 20 == 0:
+        script.long_run()
+    length = rng.choice((5, 40, 150, 300, 600))
+    episodes = rng.sample(Episodes.ALL, len(Episodes.ALL))
+    while len(script.script) < length:
+        episodes.append(episodes.pop(0))
+        episodes[-1](script)
+    if rng.random() < 0.7:
+        return script.end(b'')
+    return script.end(spoilt(script.script[-3:], rng.randrange(U32), rng))
+
+
+def spoilt_script(script, index):
+    """A call or two and a line that is no call."""
+    rng = script.rng
+    lines = [open_line(*script.opening()), correct_line(script.sample()),
+             fill_line(script.random_record(rng.choice((SETTLED, AWAITING))))]
+    for _ in range(rng.randrange(3)):
+        script.call(rng.choice(('predict', 'withdraw', *lines)))
+    return script.end(spoilt(lines, index, rng))
+
+
+def draw(peer, seed, index):
+    """The script of that index, and what the peer writes for it."""
+    script = Episodes(peer, f'{seed}/{index}')
+    turn, kind = divmod(index, SESSION_EVERY)
+    if kind == 0:
+        return session_script(script, turn)
+    return spoilt_script(script, turn * (SESSION_EVERY - 1) + kind - 1)
