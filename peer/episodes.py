@@ -111,14 +111,17 @@ class Episodes(Script):
             for _ in range(rng.choice((1, 1, 1, 2, 3))):
                 fault = rng.randrange(7)
                 if fault == 0:
-                    o[0] = rng.choice((0, 10, 11, 21, 22, (2 ** 64 + 2) // 3, *UNSIGNED))
+                    o[0] = rng.choice((0, 10, 21, 22, (2 ** 64 + 2) // 3, self.wider(o[0]),
+                                       rng.choice(UNSIGNED)))
                 elif fault == 1:
                     length = rng.choice((0, len(o[5]) - 1, len(o[5]) + 1, 3 * rng.randint(1, 9), 64))
                     o[5] = [rng.choice(o[5] or [bits(0.0)]) for _ in range(min(length, 64))]
                 elif fault == 2:
-                    o[1] = rng.choice((TOLERANCE_MOST, TOLERANCE_MOST + 1, *UNSIGNED))
+                    o[1] = rng.choice((TOLERANCE_MOST, TOLERANCE_MOST + 1, self.wider(o[1]),
+                                       rng.choice(UNSIGNED)))
                 elif fault == 3:
-                    o[2] = rng.choice((0, 1, LIMIT_MOST, LIMIT_MOST + 1, *UNSIGNED))
+                    o[2] = rng.choice((0, 1, LIMIT_MOST, LIMIT_MOST + 1, self.wider(o[2]),
+                                       rng.choice(UNSIGNED)))
                 elif fault == 4:
                     o[3][rng.randrange(3)] = self.at_bound(POSITION_BOUND)
                 elif fault == 5:
@@ -167,6 +170,10 @@ class Episodes(Script):
             self.fill(record)
             self.fitting_call()
 
+    def wider(self, number):
+        """A number whose low bits are those of the given one."""
+        return min(U64, number + 2 ** self.rng.choice((8, 16, 32, 63)))
+
     def changed(self, record, at):
         """Another value for the field."""
         rng, old = self.rng, record[at]
@@ -177,16 +184,17 @@ class Episodes(Script):
                      LIMIT: (0, 1, 8, 9, record[CORRECTIONS], record[CORRECTIONS] + 1),
                      ACCEPTED: (ACCEPTED_MOST - 1, ACCEPTED_MOST, ACCEPTED_MOST + 1),
                      CORRECTIONS: (0, 1, max(0, record[LIMIT] - 1), record[LIMIT])}
-            return rng.choice((max(0, old - 1), min(U64, old + 1), rng.choice(UNSIGNED),
-                               *edges[at]))
+            return rng.choice((max(0, old - 1), min(U64, old + 1), self.wider(old), U64,
+                               rng.choice(UNSIGNED), *edges[at]))
         place = (at - FIRST_AXIS) % AXIS_LENGTH
-        if SAMPLES <= place < POSITION:
-            if place - SAMPLES >= record[POINTS] and rng.random() < 0.7:
+        if SAMPLES <= place < POSITION and rng.random() < 0.7:
+            if place - SAMPLES >= record[POINTS]:
                 return rng.choice((1, -1, self.signed(SAMPLE_MOST)))
-        elif place in PART_PLACES:
+            return rng.choice((-1, 1)) * self.near(SAMPLE_MOST)
+        if place in PART_PLACES:
             return rng.choice(((old + 1) % PARTS, (old - 1) % PARTS, min(U32, old + PARTS),
                                PARTS, rng.choice(PART), rng.randrange(PARTS)))
-        moved = old + rng.choice((-1, 1)) * rng.choice((1, 1, self.size(POSITION_BOUND)))
+        moved = old + rng.choice((-1, 1)) * rng.choice((1, 1, 2 ** 32, self.size(POSITION_BOUND)))
         return max(-I64 - 1, min(I64, rng.choice((moved, moved, -old, rng.choice(SIGNED)))))
 
     def move(self, record, axis, what, by):
@@ -211,35 +219,51 @@ class Episodes(Script):
 
     def moved_to_bounds(self):
         """Records moved so that a present, predicted or corrected value lies at a bound."""
-        rng = self.rng
         for _ in range(5):
             record, present = self.some_record((SETTLED, AWAITING))
-            axis = rng.randrange(3)
-            self.last_sample = self.sample()
-            if present is None or rng.random() < 0.6:
+            line = 'predict' if record[STATE] == SETTLED else correct_line(self.sample())
+            axis = self.rng.choice(AXES)
+            if present is None or self.rng.random() < 0.6:
                 self.fill(record)
-                answer = (self.call('predict') if self.state == SETTLED
-                          else self.call(correct_line(self.last_sample)))
+                answer = self.call(line)
                 if answer.number != 0:
                     continue
                 found = (answer.position(axis), answer.velocity(axis))
             else:
                 found = present[axis]
-            if rng.random() < 0.5:
+            if self.rng.random() < 0.5:
                 self.shift(record, axis, self.bound_parts(POSITION_BOUND) - found[0], 0)
             else:
                 by = self.bound_parts(VELOCITY_BOUND) - found[1]
-                self.shift(record, axis, -by if rng.random() < 0.5 else 0, by)
+                self.shift(record, axis, -by if self.rng.random() < 0.5 else 0, by)
+            self.at_other_limits(record)
             self.fill(record)
+            self.call(line)
             self.fitting_call()
+
+    def at_other_limits(self, record):
+        """At times also puts the record where another refusal is near."""
+        if self.rng.random() < 0.2 and record[STATE] == SETTLED:
+            record[ACCEPTED] = ACCEPTED_MOST
+        elif self.rng.random() < 0.2:
+            record[TOLERANCE], record[LIMIT] = 0, record[CORRECTIONS] + 1
+
+    def estimate_at_bounds(self):
+        """Records after a correction whose estimate lies at a bound."""
+        record, _ = self.some_record((AWAITING,))
+        record[LIMIT], record[CORRECTIONS] = LIMIT_MOST, self.rng.randint(1, LIMIT_MOST - 1)
+        for _ in range(5):
+            moved = list(record)
+            what, bound = self.rng.choice(((POSITION, POSITION_BOUND), (VELOCITY, VELOCITY_BOUND)))
+            at = axis_at(self.rng.choice(AXES), what)
+            moved[at:at + 2] = divmod(self.bound_parts(bound), PARTS)
+            self.fill(moved)
             self.fitting_call()
 
     def at_tolerance(self):
         """Corrections whose change is the tolerance or a part beside it."""
         rng = self.rng
         record, _ = self.some_record((AWAITING,))
-        if record[STATE] != AWAITING:
-            return
         record[LIMIT], record[CORRECTIONS] = LIMIT_MOST, rng.randint(1, LIMIT_MOST - 2)
         sample = self.last_sample = self.sample()
         self.fill(record)
@@ -317,9 +341,9 @@ class Episodes(Script):
             record += exact[0] + exact[1] + samples + exact[2] + exact[3]
         return record
 
-    ALL = [session, session, session, every_number_of_points, floats, refused_openings,
-                far_out, nearly_right, nearly_right, moved_to_bounds, moved_to_bounds,
-                at_tolerance, at_tolerance, at_last_point, random_fills]
+    ALL = [session, session, session, every_number_of_points, floats, refused_openings, far_out,
+           nearly_right, nearly_right, moved_to_bounds, moved_to_bounds, estimate_at_bounds,
+           at_tolerance, at_tolerance, at_last_point, random_fills]
 
 
 def session_script(script, index):
