@@ -1,4 +1,4 @@
-"""A script as it is drawn: the peer answers each call at once, so that the next can follow from it."""
+"""A script as it is drawn: the peer answers each call at once, so that the next can fit."""
 import random
 import struct
 import subprocess

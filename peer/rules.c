@@ -174,7 +174,7 @@ static struct motion predicted(const struct axis *a, uint64_t points)
         parts(a->first_sum) + series(adams_predictor + 1, b, points)};
 }
 
-/* The corrected point at n from the second sum at n-1, the first sum at n and the samples up to n. */
+/* The corrected point at n: second sum at n-1, first sum at n, samples up to n. */
 static struct motion corrected(wide second, wide first, const int64_t *samples, uint64_t points)
 {
     int64_t b[PLACES];

@@ -1,4 +1,4 @@
-/* The session of the paper and its four calls, in plain C, for comparison with the proved library. */
+/* The session of the paper and its four calls in plain C, to compare the library with. */
 #ifndef RULES_H
 #define RULES_H
 
