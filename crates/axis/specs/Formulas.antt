@@ -5,7 +5,6 @@ use mathlib.Core.List.{List, _∷_, _++_}
 use lib.IntN.{ℤ, pos, _+ℤ_, _-ℤ_, _*ℤ_}
 use lib.ListN.{take, replicate}
 use Rattle.integers.specs.Differences.{at, byDifferences, inFront}
-use Rattle.exact.specs.declared.Exact.{Exact}
 use Rattle.exact.specs.Numerator.{D, exactOf, numerator}
 use Rattle.coefficients.specs.Formulas.{positionPredictor, positionCorrector, velocityPredictor, velocityCorrector}
 use Rattle.axis.specs.declared.Motion.{Motion}

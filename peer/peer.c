@@ -1,0 +1,282 @@
+/* Reads a script of calls from standard input and writes each answer and the record after it. */
+/* The lines of a script:
+ *   open POINTS TOLERANCE LIMIT X Y Z VX VY VZ F F ..     0 to 64 floats
+ *   predict
+ *   correct F F F
+ *   withdraw
+ *   fill STATE POINTS TOLERANCE LIMIT ACCEPTED CORRECTIONS, then for each axis
+ *        S1 whole, S1 part, S2 whole, S2 part, nine samples newest first,
+ *        estimate position whole, part, velocity whole, part
+ * Words stand apart by exactly one space, none before the first or after the last. A line ends
+ * with a newline and has at most 4,096 bytes before it; what follows the last newline is no call.
+ * POINTS TOLERANCE LIMIT ACCEPTED CORRECTIONS are unsigned of 64 bits, parts unsigned of 32 bits,
+ * wholes, samples, X Y Z VX VY VZ signed of 64 bits, STATE is 0, 1 or 2. A number is 0, or a digit
+ * from 1 to 9 and then digits, a signed one also with - before it (but not -0). A float is the 16
+ * digits of its bits, 0 to 9 and a to f. At the first other line `line N: not a call` is written,
+ * lines counted from 1, and nothing more is read. */
+#include "rules.h"
+
+#include <inttypes.h>
+#include <stdbool.h>
+#include <stdio.h>
+#include <string.h>
+#include <unistd.h>
+
+#define LINE_MOST 4096
+#define FLOATS_MOST 64
+
+/* Reading words */
+
+/* What is left of a line, and whether all so far was as it has to be. */
+struct text {
+    const char *at, *end;
+    bool good;
+};
+
+static bool next_is(struct text *t, const char *expected)
+{
+    size_t length = strlen(expected);
+    if ((size_t)(t->end - t->at) < length || memcmp(t->at, expected, length) != 0)
+        return false;
+    t->at += length;
+    return true;
+}
+
+static bool digit_follows(const struct text *t)
+{
+    return t->at < t->end && *t->at >= '0' && *t->at <= '9';
+}
+
+/* Digits without a spare zero that make at most the number given. */
+static uint64_t digits(struct text *t, uint64_t most)
+{
+    if (!digit_follows(t))
+        t->good = false;
+    if (next_is(t, "0"))
+        return 0;
+    unsigned __int128 value = 0;
+    while (t->good && digit_follows(t)) {
+        value = 10 * value + (unsigned)(*t->at++ - '0');
+        t->good = value <= most;
+    }
+    return (uint64_t)value;
+}
+
+static uint64_t unsigned_word(struct text *t, uint64_t most)
+{
+    t->good = t->good && next_is(t, " ");
+    return digits(t, most);
+}
+
+static int64_t signed_word(struct text *t)
+{
+    t->good = t->good && next_is(t, " ");
+    if (!next_is(t, "-"))
+        return (int64_t)digits(t, INT64_MAX);
+    uint64_t size = digits(t, (uint64_t)INT64_MAX + 1);
+    if (size == 0)
+        t->good = false;
+    return (int64_t)-size;
+}
+
+static double float_word(struct text *t)
+{
+    static const char hex[] = "0123456789abcdef";
+    uint64_t bits = 0;
+    double value;
+    t->good = t->good && next_is(t, " ") && t->end - t->at >= 16;
+    for (int i = 0; t->good && i < 16; i++) {
+        const char *digit = memchr(hex, *t->at++, 16);
+        t->good = digit != NULL;
+        if (t->good)
+            bits = bits << 4 | (uint64_t)(digit - hex);
+    }
+    memcpy(&value, &bits, sizeof value);
+    return value;
+}
+
+static struct exact exact_words(struct text *t)
+{
+    int64_t whole = signed_word(t);
+    return (struct exact){whole, (uint32_t)unsigned_word(t, UINT32_MAX)};
+}
+
+/* Whether the line was read to its end and all of it was as it has to be. */
+static bool read_whole(const struct text *t)
+{
+    return t->good && t->at == t->end;
+}
+
+/* Writing */
+
+static void write_value(wide number)
+{
+    struct exact value = split(number);
+    double reported = report(value);
+    uint64_t bits;
+    memcpy(&bits, &reported, sizeof bits);
+    printf(" %" PRId64 " %" PRIu32 " %016" PRIx64, value.whole, value.part, bits);
+}
+
+static void write_exact(struct exact value)
+{
+    printf(" %" PRId64 " %" PRIu32, value.whole, value.part);
+}
+
+static void write_answer(const char *call, struct answer a)
+{
+    printf("%s %d %d", call, a.number, (int)a.kind);
+    for (int i = 0; i < AXES; i++) {
+        write_value(a.point[i].position);
+        write_value(a.point[i].velocity);
+    }
+    write_value(a.change);
+    putchar('\n');
+}
+
+static void write_record(const struct record *r)
+{
+    printf("record %" PRIu64 " %" PRIu64 " %" PRIu64 " %" PRIu64 " %" PRIu64 " %" PRIu64,
+           r->state, r->points, r->tolerance, r->limit, r->accepted, r->corrections);
+    for (int i = 0; i < AXES; i++) {
+        const struct axis *a = &r->axes[i];
+        write_exact(a->first_sum);
+        write_exact(a->second_sum);
+        for (int k = 0; k < PLACES; k++)
+            printf(" %" PRId64, a->samples[k]);
+        write_exact(a->position);
+        write_exact(a->velocity);
+    }
+    putchar('\n');
+}
+
+/* Calls: each reads the rest of its line and, if it is a call, makes it and writes the answer. */
+
+static bool do_open(struct record *r, struct text *t)
+{
+    double floats[FLOATS_MOST];
+    struct opening given = {.samples = floats};
+    given.points = unsigned_word(t, UINT64_MAX);
+    given.tolerance = unsigned_word(t, UINT64_MAX);
+    given.limit = unsigned_word(t, UINT64_MAX);
+    for (int i = 0; i < AXES; i++)
+        given.position[i] = signed_word(t);
+    for (int i = 0; i < AXES; i++)
+        given.velocity[i] = signed_word(t);
+    while (t->good && t->at < t->end && given.length < FLOATS_MOST)
+        floats[given.length++] = float_word(t);
+    if (!read_whole(t))
+        return false;
+    write_answer("open", open_session(r, &given));
+    return true;
+}
+
+static bool do_predict(struct record *r, struct text *t)
+{
+    if (!read_whole(t))
+        return false;
+    write_answer("predict", predict(r));
+    return true;
+}
+
+static bool do_correct(struct record *r, struct text *t)
+{
+    double sample[AXES];
+    for (int i = 0; i < AXES; i++)
+        sample[i] = float_word(t);
+    if (!read_whole(t))
+        return false;
+    write_answer("correct", correct(r, sample));
+    return true;
+}
+
+static bool do_withdraw(struct record *r, struct text *t)
+{
+    if (!read_whole(t))
+        return false;
+    write_answer("withdraw", withdraw(r));
+    return true;
+}
+
+static bool do_fill(struct record *r, struct text *t)
+{
+    struct record filled;
+    filled.state = unsigned_word(t, AWAITING);
+    filled.points = unsigned_word(t, UINT64_MAX);
+    filled.tolerance = unsigned_word(t, UINT64_MAX);
+    filled.limit = unsigned_word(t, UINT64_MAX);
+    filled.accepted = unsigned_word(t, UINT64_MAX);
+    filled.corrections = unsigned_word(t, UINT64_MAX);
+    for (int i = 0; i < AXES; i++) {
+        struct axis *a = &filled.axes[i];
+        a->first_sum = exact_words(t);
+        a->second_sum = exact_words(t);
+        for (int k = 0; k < PLACES; k++)
+            a->samples[k] = signed_word(t);
+        a->position = exact_words(t);
+        a->velocity = exact_words(t);
+    }
+    if (!read_whole(t))
+        return false;
+    *r = filled;
+    return true;
+}
+
+static bool do_line(struct record *r, struct text t)
+{
+    bool done = false;
+    if (next_is(&t, "open"))
+        done = do_open(r, &t);
+    else if (next_is(&t, "predict"))
+        done = do_predict(r, &t);
+    else if (next_is(&t, "correct"))
+        done = do_correct(r, &t);
+    else if (next_is(&t, "withdraw"))
+        done = do_withdraw(r, &t);
+    else if (next_is(&t, "fill"))
+        done = do_fill(r, &t);
+    if (done)
+        write_record(r);
+    return done;
+}
+
+/* Lines */
+
+/* The next byte of the input, or -1 at its end; what was written goes out before any wait. */
+static int next_byte(void)
+{
+    static unsigned char held[65536];
+    static size_t at, length;
+    if (at == length) {
+        fflush(stdout);
+        ssize_t got = read(STDIN_FILENO, held, sizeof held);
+        if (got <= 0)
+            return -1;
+        at = 0;
+        length = (size_t)got;
+    }
+    return held[at++];
+}
+
+int main(void)
+{
+    static char line[LINE_MOST], out[65536];
+    struct record r = {.state = CLOSED};
+    prepare();
+    setvbuf(stdout, out, _IOFBF, sizeof out);
+    for (uint64_t number = 1;; number++) {
+        size_t length = 0;
+        int byte = next_byte();
+        if (byte < 0)
+            return 0;
+        while (byte >= 0 && byte != '\n' && length < LINE_MOST) {
+            line[length++] = (char)byte;
+            byte = next_byte();
+        }
+        struct text text = {line, line + length, byte == '\n'};
+        if (!text.good || !do_line(&r, text)) {
+            printf("line %" PRIu64 ": not a call\n", number);
+            return 0;
+        }
+    }
+}

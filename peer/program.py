@@ -1,0 +1,110 @@
+"""Building the peer, running a program on a script of calls, and reading the lines it writes."""
+import argparse
+import os
+import pathlib
+import re
+import struct
+import subprocess
+
+HERE = pathlib.Path(__file__).resolve().parent
+TOP = HERE.parent
+OUT = TOP / 'target' / 'peer'
+REPLAY = TOP / 'target' / 'bin' / 'replay'
+SOURCES = ('rules.h', 'rules.c', 'peer.c')
+
+PARTS = 159667200
+AXES = range(3)
+STATE, POINTS, TOLERANCE, LIMIT, ACCEPTED, CORRECTIONS = range(6)
+# Where the 17 numbers of an axis begin, and what stands where among them.
+FIRST_AXIS, AXIS_LENGTH = 6, 17
+FIRST_SUM, SECOND_SUM, SAMPLES, POSITION, VELOCITY = 0, 2, 4, 13, 15
+
+
+class Arguments(argparse.ArgumentParser):
+    """Arguments whose faults are told in one line."""
+
+    def error(self, message):
+        self.exit(2, f'{self.prog}: {message}\n')
+
+
+def program_path(text):
+    """The path of a program that can be run."""
+    path = pathlib.Path(text).resolve()
+    if not os.access(path, os.X_OK) or not path.is_file():
+        raise argparse.ArgumentTypeError(f'{text} is no program')
+    return path
+
+
+def build(folder=OUT, sources=HERE, warnings=('-Wall', '-Wextra', '-Werror')):
+    """Compiles the peer into the folder, unless that is done; the path of the program."""
+    program, new = folder / 'peer', folder / f'peer.{os.getpid()}'
+    files = [sources / name for name in SOURCES]
+    if not program.exists() or program.stat().st_mtime < max(f.stat().st_mtime for f in files):
+        folder.mkdir(parents=True, exist_ok=True)
+        subprocess.run(['gcc', '-O2', '-std=c11', *warnings, '-ffp-contract=off', '-o', new,
+                        *(f for f in files if f.suffix == '.c')], check=True)
+        new.rename(program)
+    return program
+
+
+def run(program, script, seconds=120):
+    """What the program writes for the script, with a last line added if it does not end well."""
+    try:
+        done = subprocess.run([str(program)], input=script, stdout=subprocess.PIPE,
+                              timeout=seconds)
+    except subprocess.TimeoutExpired as late:
+        return (late.stdout or b'') + b'(did not end)\n'
+    if done.returncode < 0:
+        return done.stdout + b'(ended by signal %d)\n' % -done.returncode
+    return done.stdout
+
+
+def lines_of(text):
+    """The lines of a script or an output, each with its newline, the last perhaps without."""
+    return re.findall(rb'[^\n]*\n|[^\n]+', text)
+
+
+def bits(value):
+    """A float as a word of a script."""
+    return struct.pack('>d', value).hex()
+
+
+def open_line(points, tolerance, limit, positions, velocities, floats):
+    """A line that opens; the floats are words."""
+    return ' '.join(map(str, ['open', points, tolerance, limit,
+                              *positions, *velocities, *floats]))
+
+
+def correct_line(floats):
+    return ' '.join(['correct', *floats])
+
+
+def fill_line(record):
+    return ' '.join(map(str, ['fill', *record]))
+
+
+def record_fields(line):
+    """The numbers of a record line."""
+    return [int(word) for word in line.split()[1:]]
+
+
+def axis_at(axis, what):
+    """Where a number of an axis stands in a record."""
+    return FIRST_AXIS + AXIS_LENGTH * axis + what
+
+
+class Answer:
+    """An answer line: number, kind, and seven values in parts with the bits of their reports."""
+
+    def __init__(self, line):
+        words = line.decode().split()
+        self.call, self.number, self.kind = words[0], int(words[1]), int(words[2])
+        wholes, parts, self.reports = words[3::3], words[4::3], words[5::3]
+        self.values = [int(w) * PARTS + int(p) for w, p in zip(wholes, parts)]
+        self.exact = [(int(w), int(p)) for w, p in zip(wholes, parts)]
+
+    def position(self, axis):
+        return self.values[2 * axis]
+
+    def velocity(self, axis):
+        return self.values[2 * axis + 1]

@@ -1,0 +1,194 @@
+"""Episodes of calls on records that a host has filled."""
+from sessions import *
+
+
+class Records(Sessions):
+    """A script with records filled at random, or from records that calls have left."""
+
+    def some_record(self, states):
+        """A record that a call has left in one of the states, with its present point if known."""
+        found = [entry for entry in self.seen if int(entry[0][7:8]) in states]
+        if found:
+            line, present = self.rng.choice(found)
+            return record_fields(line), present
+        self.open()
+        if AWAITING in states and self.state == SETTLED:
+            self.call('predict')
+        return self.record(), self.present
+
+    def nearly_right(self):
+        """Records with one field off."""
+        for _ in range(10):
+            record, _ = self.some_record((SETTLED, AWAITING))
+            at = self.rng.choice((self.rng.randrange(FIRST_AXIS), self.rng.randrange(len(record)),
+                                  axis_at(self.rng.choice(AXES), self.rng.choice(PART_PLACES))))
+            record[at] = self.changed(record, at)
+            self.fill(record)
+            self.fitting_call()
+
+    def changed(self, record, at):
+        """Another value for the field."""
+        rng, old = self.rng, record[at]
+        if at == STATE:
+            return rng.choice((CLOSED, SETTLED, AWAITING))
+        if at < FIRST_AXIS:
+            edges = {POINTS: (0, 1, 9, 10), TOLERANCE: (TOLERANCE_MOST, TOLERANCE_MOST + 1),
+                     LIMIT: (0, 1, 8, 9, record[CORRECTIONS], record[CORRECTIONS] + 1),
+                     ACCEPTED: (ACCEPTED_MOST - 1, ACCEPTED_MOST, ACCEPTED_MOST + 1),
+                     CORRECTIONS: (0, 1, max(0, record[LIMIT] - 1), record[LIMIT])}
+            return rng.choice((max(0, old - 1), min(U64, old + 1), self.wider(old), U64,
+                               rng.choice(UNSIGNED), *edges[at]))
+        place = (at - FIRST_AXIS) % AXIS_LENGTH
+        if SAMPLES <= place < POSITION and rng.random() < 0.7:
+            if place - SAMPLES >= record[POINTS]:
+                return rng.choice((1, -1, self.signed(SAMPLE_MOST)))
+            return rng.choice((-1, 1)) * self.near(SAMPLE_MOST)
+        if place in PART_PLACES:
+            return rng.choice(((old + 1) % PARTS, (old - 1) % PARTS, min(U32, old + PARTS),
+                               PARTS, rng.choice(PART), rng.randrange(PARTS)))
+        moved = old + rng.choice((-1, 1)) * rng.choice((1, 1, 2 ** 32, self.size(POSITION_BOUND)))
+        return max(-I64 - 1, min(I64, rng.choice((moved, moved, -old, rng.choice(SIGNED)))))
+
+    def move(self, record, axis, what, by):
+        """Adds parts to an exact value of a record, if the result has a whole of 64 bits."""
+        at = axis_at(axis, what)
+        number = record[at] * PARTS + record[at + 1] + by
+        if abs(number // PARTS) < I64:
+            record[at], record[at + 1] = divmod(number, PARTS)
+
+    def shift(self, record, axis, position, velocity):
+        """Moves every point of the axis by so many parts, later ones also by the velocity's."""
+        self.move(record, axis, FIRST_SUM, velocity)
+        self.move(record, axis, SECOND_SUM, position + velocity)
+        if record[STATE] == AWAITING:
+            self.move(record, axis, POSITION, position + velocity)
+            self.move(record, axis, VELOCITY, velocity)
+
+    def bound_parts(self, bound):
+        """A bound in parts, or just beside it."""
+        return (self.rng.choice((-bound, bound)) * PARTS
+                + self.rng.choice((-PARTS, -1, -1, 0, 0, 1, PARTS)))
+
+    def moved_to_bounds(self):
+        """Records moved so that a present, predicted or corrected value lies at a bound."""
+        for _ in range(5):
+            record, present = self.some_record((SETTLED, AWAITING))
+            line = 'predict' if record[STATE] == SETTLED else correct_line(self.sample())
+            axis = self.rng.choice(AXES)
+            if present is None or self.rng.random() < 0.6:
+                self.fill(record)
+                answer = self.call(line)
+                if answer.number != 0:
+                    continue
+                found = (answer.position(axis), answer.velocity(axis))
+            else:
+                found = present[axis]
+            if self.rng.random() < 0.5:
+                self.shift(record, axis, self.bound_parts(POSITION_BOUND) - found[0], 0)
+            else:
+                by = self.bound_parts(VELOCITY_BOUND) - found[1]
+                self.shift(record, axis, -by if self.rng.random() < 0.5 else 0, by)
+            self.at_other_limits(record)
+            self.fill(record)
+            self.call(line)
+            self.fitting_call()
+
+    def at_other_limits(self, record):
+        """At times also puts the record where another refusal is near."""
+        if self.rng.random() < 0.2 and record[STATE] == SETTLED:
+            record[ACCEPTED] = ACCEPTED_MOST
+        elif self.rng.random() < 0.2:
+            record[TOLERANCE], record[LIMIT] = 0, record[CORRECTIONS] + 1
+
+    def estimate_at_bounds(self):
+        """Records after a correction whose estimate lies at a bound."""
+        record, _ = self.some_record((AWAITING,))
+        record[LIMIT], record[CORRECTIONS] = LIMIT_MOST, self.rng.randint(1, LIMIT_MOST - 1)
+        for _ in range(5):
+            moved = list(record)
+            what, bound = self.rng.choice(((POSITION, POSITION_BOUND), (VELOCITY, VELOCITY_BOUND)))
+            at = axis_at(self.rng.choice(AXES), what)
+            moved[at:at + 2] = divmod(self.bound_parts(bound), PARTS)
+            self.fill(moved)
+            self.fitting_call()
+
+    def at_tolerance(self):
+        """Corrections whose change is the tolerance or a part beside it."""
+        rng = self.rng
+        record, _ = self.some_record((AWAITING,))
+        record[LIMIT], record[CORRECTIONS] = LIMIT_MOST, rng.randint(1, LIMIT_MOST - 2)
+        sample = self.last_sample = self.sample()
+        self.fill(record)
+        answer = self.call(correct_line(sample))
+        if answer.number != 0:
+            return
+        for _ in range(5):
+            record[TOLERANCE] = rng.choice((record[TOLERANCE], 0, self.size(TOLERANCE_MOST),
+                                            TOLERANCE_MOST))
+            record[LIMIT] = rng.choice((LIMIT_MOST, record[CORRECTIONS] + 1,
+                                        record[CORRECTIONS] + 2))
+            edge = record[TOLERANCE] * PARTS
+            odd = rng.randrange(3)
+            for axis in AXES:
+                apart = edge - rng.choice((0, 0, self.size(edge)))
+                if axis == odd:
+                    apart = edge + rng.choice((-PARTS, -1, 0, 0, 1, 1, PARTS, self.size(2 ** 80)))
+                at = axis_at(axis, POSITION)
+                record[at:at + 2] = divmod(answer.position(axis) + rng.choice((-apart, apart)),
+                                           PARTS)
+            self.fill(record)
+            self.call(correct_line(sample))
+
+    def at_last_point(self):
+        """Sessions at and about the largest number of accepted points."""
+        record, _ = self.some_record((SETTLED, AWAITING))
+        record[ACCEPTED] = ACCEPTED_MOST - self.rng.choice((-1, 0, 1, 1, 2))
+        self.fill(record)
+        for _ in range(8):
+            self.fitting_call()
+
+    def random_record(self, state):
+        """A record with every field in its range, whether or not they fit together."""
+        rng = self.rng
+        points, limit = rng.randint(1, PLACES), rng.randint(1, LIMIT_MOST)
+        waits = state == AWAITING
+        record = [state, points, self.size(TOLERANCE_MOST), limit,
+                  rng.choice((self.size(ACCEPTED_MOST), ACCEPTED_MOST)) if not waits
+                  else self.size(ACCEPTED_MOST - 1),
+                  rng.randrange(limit) if waits else 0]
+        scale = max(1, self.size(SAMPLE_MOST))
+        for _ in AXES:
+            record += [self.signed(VELOCITY_BOUND - 1), rng.randrange(PARTS),
+                       self.signed(POSITION_BOUND - 1), rng.randrange(PARTS)]
+            record += [rng.randint(-scale, scale) if i < points else 0 for i in range(PLACES)]
+            for bound in (POSITION_BOUND, VELOCITY_BOUND):
+                record += [self.signed(bound - 1), rng.randrange(PARTS)] if waits else [0, 0]
+        return record
+
+    def random_fills(self):
+        """Records filled at random, within their ranges or not at all."""
+        rng = self.rng
+        for _ in range(5):
+            record = self.random_record(rng.choice((SETTLED, AWAITING)))
+            kind = rng.randrange(3)
+            if kind == 0:
+                for _ in range(rng.randint(1, 4)):
+                    at = rng.randrange(len(record))
+                    record[at] = self.changed(record, at)
+            elif kind == 1 and rng.random() < 0.5:
+                record = self.wild_record()
+            self.fill(record)
+            for _ in range(rng.randint(1, 4)):
+                self.fitting_call()
+
+    def wild_record(self):
+        rng = self.rng
+
+        def number(edges, most, least=0):
+            return rng.choice((rng.choice(edges), rng.randint(least, most)))
+        record = [rng.randrange(3)] + [number(UNSIGNED, U64) for _ in range(5)]
+        for _ in AXES:
+            exact = [[number(SIGNED, I64, -I64 - 1), number(PART, U32)] for _ in range(4)]
+            samples = [number(SIGNED, I64, -I64 - 1) for _ in range(PLACES)]
+            record += exact[0] + exact[1] + samples + exact[2] + exact[3]
+        return record

@@ -1,0 +1,68 @@
+/* The session of the paper and its four calls in plain C, to compare the library with. */
+#ifndef RULES_H
+#define RULES_H
+
+#include <stddef.h>
+#include <stdint.h>
+
+/* D, the number of parts in a tick. */
+#define PARTS 159667200
+#define PLACES 9
+#define AXES 3
+
+enum state { CLOSED, SETTLED, AWAITING };
+enum kind { NONE, ACCEPTED, AGAIN };
+
+/* A number of parts, of any size that can arise. */
+typedef __int128 wide;
+
+/* An exact value as a host can write it: whole ticks and parts. */
+struct exact {
+    int64_t whole;
+    uint32_t part;
+};
+
+struct axis {
+    struct exact first_sum, second_sum;
+    int64_t samples[PLACES]; /* newest first */
+    struct exact position, velocity; /* the estimate */
+};
+
+struct record {
+    uint64_t state, points, tolerance, limit, accepted, corrections;
+    struct axis axes[AXES];
+};
+
+/* A position with its velocity, in parts. */
+struct motion {
+    wide position, velocity;
+};
+
+struct answer {
+    int number;
+    enum kind kind;
+    struct motion point[AXES];
+    wide change;
+};
+
+/* What open is given; samples oldest point first. */
+struct opening {
+    uint64_t points, tolerance, limit;
+    int64_t position[AXES], velocity[AXES];
+    const double *samples;
+    size_t length;
+};
+
+/* Works out the coefficients from their rules; to be called once, before any other. */
+void prepare(void);
+
+struct answer open_session(struct record *r, const struct opening *given);
+struct answer predict(struct record *r);
+struct answer correct(struct record *r, const double sample[AXES]);
+struct answer withdraw(struct record *r);
+
+/* The exact value of a number of parts, and its report. */
+struct exact split(wide number);
+double report(struct exact value);
+
+#endif

@@ -1,0 +1,88 @@
+"""Lines that are no calls, or hardly are, made from lines that are."""
+from program import bits, open_line
+
+U64, I64, U32 = 2 ** 64 - 1, 2 ** 63 - 1, 2 ** 32 - 1
+# What takes the place of a number, and of a float.
+NUMBERS = ['', '-', '+1', '-0', '00', '01', '-01', '-1', '3', '1.0', '1e3', '0x1', 'a', '\uff11',
+           U32 + 1, I64, I64 + 1, -I64 - 1, -I64 - 2, U64, U64 + 1, 2 ** 65, 2 ** 128, -2 ** 64]
+FLOATS = ['', '0', '0' * 15, '0' * 17, 'F' * 16, 'g' * 16, '3fF' + '0' * 13, '-' + '0' * 15]
+# Whole lines.
+LINES = ['', ' ', 'predict ', ' predict', 'predict  ', 'Predict', 'predictpredict', 'predict 0',
+         'predict\r', 'predict\t', 'withdrawn', 'withdraw 1', 'withdra', 'fil', 'fill', 'correct',
+         'open', 'close', '#', '\0', 'predict\0',
+         *(open_line(1, 0, 1, [0] * 3, [0] * 3, [bits(0.0)] * count) for count in (64, 65, 66)),
+         *('predict'.ljust(length) for length in (4095, 4096, 4097, 70000))]
+
+
+def cut_word(words, at, rng):
+    del words[at]
+
+
+def double_word(words, at, rng):
+    words.insert(at, words[at])
+
+
+def append_word(words, at, rng):
+    words.append(rng.choice(('', '0', bits(0.0))))
+
+
+def append_to_word(words, at, rng):
+    words[at] += rng.choice(('\r', '\t', ',', '.', '0', ' ', '\0', '\u00e9'))
+
+
+def put_before_word(words, at, rng):
+    words[at] = rng.choice(('0', '-', '+', ' ', '\t', '_')) + words[at]
+
+
+def shorten_word(words, at, rng):
+    words[at] = words[at][:-1]
+
+
+def raise_letters(words, at, rng):
+    words[:] = [word.upper() if i >= at else word for i, word in enumerate(words)]
+
+
+def join_words(words, at, rng):
+    words[at:at + 2] = [rng.choice(('', '\t', '  ', ',')).join(words[at:at + 2])]
+
+
+def end_early(words, at, rng):
+    del words[at:]
+
+
+EDITS = [cut_word, double_word, append_word, append_to_word, put_before_word, shorten_word,
+         raise_letters, join_words, end_early]
+
+
+def replaced(lines, word, long, rng):
+    """One of the lines with a number, or if long a float, replaced by the word."""
+    places = [(line, at) for line in lines for at, old in enumerate(line.split(' '))
+              if at > 0 and (len(old) == 16) == long]
+    if not places:
+        return word
+    line = rng.choice([line for line, _ in places])
+    at = rng.choice([at for held, at in places if held == line])
+    words = line.split(' ')
+    words[at] = word
+    return ' '.join(words)
+
+
+def edited(lines, edit, rng):
+    words = rng.choice(lines).split(' ')
+    edit(words, rng.randrange(len(words)), rng)
+    return ' '.join(words)
+
+
+WAYS = [*(lambda lines, rng, w=w: replaced(lines, str(w), False, rng) for w in NUMBERS),
+        *(lambda lines, rng, w=w: replaced(lines, w, True, rng) for w in FLOATS),
+        *(lambda lines, rng, e=e: edited(lines, e, rng) for e in EDITS + EDITS),
+        *(lambda lines, rng, line=line: line for line in LINES)]
+
+
+def spoilt(lines, which, rng):
+    """One of the lines spoilt, with what comes after it; each way has its turn."""
+    which %= len(WAYS) + 1
+    if which == len(WAYS):
+        return rng.choice(lines).encode()
+    ending = rng.choice(('\n', '\n', '\npredict\n', ''))
+    return (WAYS[which](lines, rng) + ending).encode()
