@@ -1,5 +1,5 @@
 -- What each call is made of, for `lending`: the record, the arguments, the answer, what the step gives, and the rule that it follows.
-use mathlib.Core.Path.{refl}
+use mathlib.Core.Path.{_≡_, refl}
 use mathlib.Core.List.{[], _∷_}
 use Prim.Native.Nat.{ℕ}
 use mir.Syntax.{w64, tyInt}
@@ -10,7 +10,8 @@ use Rattle.lending.proofs.Data.{Struct, Enum, Outcome}
 use Rattle.lending.proofs.Arguments.{Argument, number, struct, slice}
 use Rattle.lending.proofs.Lent.{the-record, no-record}
 use Rattle.lending.proofs.Contracts.{Plan}
-use Rattle.steps.specs.Steps.{openOf, predictOf, correctOf, withdrawOf}
+use Rattle.steps.specs.Answers.{openingAnswer, predictionAnswer, correctionAnswer, withdrawalAnswer}
+use Rattle.steps.specs.Steps.{openOf, openAnswer, predictOf, predictAnswer, correctOf, correctAnswer, withdrawOf, withdrawAnswer}
 use Rattle.ticks.proofs.Sample
 use Rattle.ticks.proofs.Sample.Laws as SampleLaws
 use Rattle.session.proofs.Session
@@ -79,13 +80,41 @@ opens = record {
   args = count ∷ count ∷ count ∷ struct start ∷ slice 0 tt f64 ∷ [];
   takes = no-record;
   rule = λ κs a. openOf (a .0) (a .1 .0) (a .1 .1 .0) (a .1 .1 .1 .0) (a .1 .1 .1 .1 .0 .now);
+  says = λ κs a r. openingAnswer r ≡ openAnswer (a .0) (a .1 .0) (a .1 .1 .0) (a .1 .1 .1 .0) (a .1 .1 .1 .1 .0 .now);
 }
 
 abbrev pub predicts : Plan
-predicts = record { lent = session; answer = prediction; outcome = predicted; lifetimes = 0; args = []; takes = the-record; rule = λ κs a. predictOf (a .0) }
+predicts = record {
+  lent = session;
+  answer = prediction;
+  outcome = predicted;
+  lifetimes = 0;
+  args = [];
+  takes = the-record;
+  rule = λ κs a. predictOf (a .0);
+  says = λ κs a r. predictionAnswer r ≡ predictAnswer (a .0);
+}
 
 abbrev pub corrects : Plan
-corrects = record { lent = session; answer = correction; outcome = corrected; lifetimes = 0; args = struct sample ∷ []; takes = the-record; rule = λ κs a. correctOf (a .0) (a .1 .0) }
+corrects = record {
+  lent = session;
+  answer = correction;
+  outcome = corrected;
+  lifetimes = 0;
+  args = struct sample ∷ [];
+  takes = the-record;
+  rule = λ κs a. correctOf (a .0) (a .1 .0);
+  says = λ κs a r. correctionAnswer r ≡ correctAnswer (a .0) (a .1 .0);
+}
 
 abbrev pub withdraws : Plan
-withdraws = record { lent = session; answer = withdrawal; outcome = withdrawn; lifetimes = 0; args = []; takes = the-record; rule = λ κs a. withdrawOf (a .0) }
+withdraws = record {
+  lent = session;
+  answer = withdrawal;
+  outcome = withdrawn;
+  lifetimes = 0;
+  args = [];
+  takes = the-record;
+  rule = λ κs a. withdrawOf (a .0);
+  says = λ κs a r. withdrawalAnswer r ≡ withdrawAnswer (a .0);
+}

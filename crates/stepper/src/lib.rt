@@ -7,7 +7,8 @@ use steps::Start;
 use steps::Withdrawal;
 use ticks::Sample;
 ghost use mathlib.Core.Path.{_≡_};
-ghost use Rattle.steps.specs.Steps.{openOf, predictOf, correctOf, withdrawOf};
+ghost use Rattle.steps.specs.Answers.{openingAnswer, predictionAnswer, correctionAnswer, withdrawalAnswer};
+ghost use Rattle.steps.specs.Steps.{openOf, openAnswer, predictOf, predictAnswer, correctOf, correctAnswer, withdrawOf, withdrawAnswer};
 
 pub mod owned;
 
@@ -20,7 +21,8 @@ pub fn open(
     samples: &[f64],
 ) -> Opening
     ensures { λ r. ⌜ (now (s .exit) ≡ openOf points tolerance limit start (now (samples .entry)) .session)
-        × (r ≡ openOf points tolerance limit start (now (samples .entry)) .answer) ⌝ }
+        × (r ≡ openOf points tolerance limit start (now (samples .entry)) .answer)
+        × (openingAnswer r ≡ openAnswer points tolerance limit start (now (samples .entry))) ⌝ }
 {
     let r = steps::open_step(points, tolerance, limit, start, samples);
     *s = r.session;
@@ -28,7 +30,9 @@ pub fn open(
 }
 
 pub fn predict(s: &mut Session) -> Prediction
-    ensures { λ r. ⌜ (now (s .exit) ≡ predictOf (now (s .entry)) .session) × (r ≡ predictOf (now (s .entry)) .answer) ⌝ }
+    ensures { λ r. ⌜ (now (s .exit) ≡ predictOf (now (s .entry)) .session)
+        × (r ≡ predictOf (now (s .entry)) .answer)
+        × (predictionAnswer r ≡ predictAnswer (now (s .entry))) ⌝ }
 {
     let r = steps::predict_step(*s);
     *s = r.session;
@@ -36,7 +40,9 @@ pub fn predict(s: &mut Session) -> Prediction
 }
 
 pub fn correct(s: &mut Session, a: Sample) -> Correction
-    ensures { λ r. ⌜ (now (s .exit) ≡ correctOf (now (s .entry)) a .session) × (r ≡ correctOf (now (s .entry)) a .answer) ⌝ }
+    ensures { λ r. ⌜ (now (s .exit) ≡ correctOf (now (s .entry)) a .session)
+        × (r ≡ correctOf (now (s .entry)) a .answer)
+        × (correctionAnswer r ≡ correctAnswer (now (s .entry)) a) ⌝ }
 {
     let r = steps::correct_step(*s, a);
     *s = r.session;
@@ -44,7 +50,9 @@ pub fn correct(s: &mut Session, a: Sample) -> Correction
 }
 
 pub fn withdraw(s: &mut Session) -> Withdrawal
-    ensures { λ r. ⌜ (now (s .exit) ≡ withdrawOf (now (s .entry)) .session) × (r ≡ withdrawOf (now (s .entry)) .answer) ⌝ }
+    ensures { λ r. ⌜ (now (s .exit) ≡ withdrawOf (now (s .entry)) .session)
+        × (r ≡ withdrawOf (now (s .entry)) .answer)
+        × (withdrawalAnswer r ≡ withdrawAnswer (now (s .entry))) ⌝ }
 {
     let r = steps::withdraw_step(*s);
     *s = r.session;
