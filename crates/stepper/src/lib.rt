@@ -1,8 +1,8 @@
 // The calls of the library: each is lent the session's record, takes the step by value, and leaves the record that the step gives.
+use session::Session;
 use steps::Correction;
 use steps::Opening;
 use steps::Prediction;
-use session::Session;
 use steps::Start;
 use steps::Withdrawal;
 use ticks::Sample;

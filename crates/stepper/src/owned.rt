@@ -1,10 +1,10 @@
 // The same calls for whoever owns the record: each lends its own copy to a call, and returns what the call leaves beside its answer.
+use session::Session;
 use steps::AfterCorrect;
 use steps::AfterOpen;
 use steps::AfterPredict;
-use session::Session;
-use steps::Start;
 use steps::AfterWithdraw;
+use steps::Start;
 use ticks::Sample;
 ghost use mathlib.Core.Path.{_≡_};
 ghost use Rattle.steps.specs.Steps.{openOf, predictOf, correctOf, withdrawOf};
