@@ -139,7 +139,7 @@ module _ (s : List ℕ) (at : ℕ) (z : ℤ) (end : ℕ) where
 
 module _ {a : List ℕ} {at : ℕ} {word b : List ℕ} {end : ℕ} (w : Wrote a at word b end) (h : at ≤ length a) where
   past : drop end (take end b) ≡ []
-  past = drop-of-length-le (take end b) (omega (arith, length-take end b))
+  past = drop-of-length-le (take end b) {i = end} (omega (arith, length-take end b))
 
   written : Stands (take end b) at word end
   written =
