@@ -1,0 +1,4 @@
+pub mod Writes
+mod Decimals
+mod Signs
+mod Hexadecimals
