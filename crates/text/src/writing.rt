@@ -44,11 +44,7 @@ pub fn put_decimal(out: &mut [u8], at: usize, n: u64) -> usize
 fn size(z: i64) -> u64
     ensures { λ r. ⌜ r ≡ natAbs z ⌝ }
 {
-    if z < 0 {
-        (-1 - z) as u64 + 1
-    } else {
-        z as u64
-    }
+    if z < 0 { (-1 - z) as u64 + 1 } else { z as u64 }
 }
 
 pub fn put_signed(out: &mut [u8], at: usize, z: i64) -> usize
@@ -67,11 +63,7 @@ fn hex_digit(d: u64) -> u8
     requires { ⌜ d < 16 ⌝ }
     ensures { λ r. ⌜ r ≡ hexDigit d ⌝ }
 {
-    if d < 10 {
-        b'0' + d as u8
-    } else {
-        87 + d as u8
-    }
+    if d < 10 { b'0' + d as u8 } else { 87 + d as u8 }
 }
 
 // The last k hexadecimal digits.
