@@ -71,7 +71,7 @@ fn opening_samples() -> Samples {
 pub fn begin() -> Course {
     let samples = opening_samples();
     let floats = samples.floats;
-    let after = stepper::owned::open(session::closed(), 9, 250_000, 2, start(), &floats);
+    let after = stepper::owned::open(session::closed(), 9, 160_000, 2, start(), &floats);
     let answer = after.answer;
     let session = after.session;
     let seen = match answer {
