@@ -16,13 +16,13 @@ static uint64_t accepted, again, withdrawn, failed;
 static uint64_t draw(void)
 {
     drawn = (1103515245 * drawn + 12345) % 2147483648;
-    return drawn / 65536;
+    return drawn / 32768;
 }
 
 static void draw_sample(double sample[AXES])
 {
     for (int i = 0; i < AXES; i++)
-        sample[i] = (double)(int64_t)draw() - 16384;
+        sample[i] = (double)(int64_t)draw() - 32768;
 }
 
 /* The samples of a second correction lie near those of the first. */
@@ -75,7 +75,7 @@ static struct answer step(uint64_t n)
 int main(void)
 {
     double samples[PLACES * AXES];
-    struct opening given = {9, 160000, 2, {0}, {0}, samples, PLACES * AXES};
+    struct opening given = {9, 320000, 2, {0}, {0}, samples, PLACES * AXES};
     struct answer last = {0};
     prepare();
     for (int i = 0; i < AXES; i++) {

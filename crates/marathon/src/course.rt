@@ -1,10 +1,12 @@
 // The marathon: an opening, and a million points.
 use crate::calls;
 use crate::calls::Host;
-use crate::draws;
-use crate::draws::Draw;
+use crate::near::drawn_near;
 use crate::track;
 use crate::track::Track;
+use drawing::Draw;
+use drawing::drawn;
+use drawing::sample_of;
 use steps::Correction;
 use steps::Opening;
 use steps::ReportedPoint;
@@ -48,8 +50,8 @@ fn opening_samples() -> Samples {
     let mut seed: u64 = 1;
     let mut i: usize = 0;
     while i < 9 {
-        let d = draws::drawn(seed);
-        let a = draws::sample_of(d);
+        let d = drawn(seed);
+        let a = sample_of(d);
         floats[3 * i] = a.x;
         floats[3 * i + 1] = a.y;
         floats[3 * i + 2] = a.z;
@@ -71,7 +73,7 @@ fn opening_samples() -> Samples {
 pub fn begin() -> Course {
     let samples = opening_samples();
     let floats = samples.floats;
-    let after = stepper::owned::open(session::closed(), 9, 160_000, 2, start(), &floats);
+    let after = stepper::owned::open(session::closed(), 9, 320_000, 2, start(), &floats);
     let answer = after.answer;
     let session = after.session;
     let seen = match answer {
@@ -143,11 +145,11 @@ fn second(c: Course, n: u64, h: Host, d: Draw) -> Course {
     let mut host = h;
     if n % 5 == 2 {
         host = calls::predict(calls::withdraw(host));
-        let again = calls::correct(host, draws::sample_of(d));
+        let again = calls::correct(host, sample_of(d));
         host = again.host;
     }
-    let near = draws::drawn_near(d);
-    let corrected = calls::correct(host, draws::sample_of(near));
+    let near = drawn_near(d);
+    let corrected = calls::correct(host, sample_of(near));
     let answer = corrected.answer;
     match answer {
         Correction::Accepted(q) => accepted(c, n, corrected.host, near, q),
@@ -161,8 +163,8 @@ fn step(c: Course, n: u64) -> Course {
     if n % 7 == 3 {
         host = calls::predict(calls::withdraw(host));
     }
-    let d = draws::drawn(c.seed);
-    let corrected = calls::correct(host, draws::sample_of(d));
+    let d = drawn(c.seed);
+    let corrected = calls::correct(host, sample_of(d));
     let answer = corrected.answer;
     match answer {
         Correction::Accepted(q) => accepted(c, n, corrected.host, d, q),

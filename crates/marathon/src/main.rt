@@ -3,8 +3,8 @@
 mod calls;
 mod checked;
 mod course;
-mod draws;
 mod formulas;
+mod near;
 mod track;
 
 use calls::Seen;

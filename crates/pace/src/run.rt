@@ -1,0 +1,118 @@
+// The steps.
+use crate::sums::with_point;
+use session::Session;
+use steps::Correction;
+use steps::Opening;
+use steps::Prediction;
+use steps::Start;
+use ticks::Sample;
+ghost use Prim.Native.Nat.{_≤_};
+
+// The session, the number that the next draw begins with, the checksum, and whether an answer was refused.
+pub struct Run {
+    pub session: Session,
+    pub seed: u64,
+    pub sum: u64,
+    pub refused: bool,
+}
+
+fn at_rest() -> Start {
+    Start {
+        x: 0,
+        y: 0,
+        z: 0,
+        vx: 0,
+        vy: 0,
+        vz: 0,
+    }
+}
+
+fn opened(points: usize) -> Run
+    requires { ⌜ points ≤ 9 ⌝ }
+{
+    let zeros = [0.0f64; 27];
+    let after = stepper::owned::open(
+        session::closed(),
+        points,
+        1_048_576,
+        1,
+        at_rest(),
+        &zeros[..3 * points],
+    );
+    let answer = after.answer;
+    let session = after.session;
+    let refused = match answer {
+        Opening::Opened => false,
+        Opening::Refused(number) => true,
+    };
+    Run {
+        session,
+        seed: 1,
+        sum: 0,
+        refused,
+    }
+}
+
+fn predicted(r: Run) -> Run {
+    let after = stepper::owned::predict(r.session);
+    let answer = after.answer;
+    let session = after.session;
+    match answer {
+        Prediction::Predicted(q) => Run {
+            session,
+            seed: r.seed,
+            sum: with_point(r.sum, q),
+            refused: r.refused,
+        },
+        Prediction::Refused(number) => Run {
+            session,
+            seed: r.seed,
+            sum: r.sum,
+            refused: true,
+        },
+    }
+}
+
+fn corrected(r: Run, a: Sample, seed: u64) -> Run {
+    let after = stepper::owned::correct(r.session, a);
+    let answer = after.answer;
+    let session = after.session;
+    match answer {
+        Correction::Accepted(q) => Run {
+            session,
+            seed,
+            sum: with_point(r.sum, q),
+            refused: r.refused,
+        },
+        Correction::Again(q, change) => Run {
+            session,
+            seed,
+            sum: r.sum,
+            refused: true,
+        },
+        Correction::Refused(number) => Run {
+            session,
+            seed,
+            sum: r.sum,
+            refused: true,
+        },
+    }
+}
+
+fn step(r: Run) -> Run {
+    let awaiting = predicted(r);
+    let d = drawing::drawn(r.seed);
+    corrected(awaiting, drawing::sample_of(d), d.seed)
+}
+
+pub fn paced(points: usize, steps: u64) -> Run
+    requires { ⌜ points ≤ 9 ⌝ }
+{
+    let mut r = opened(points);
+    let mut n: u64 = 0;
+    while n < steps {
+        r = step(r);
+        n += 1;
+    }
+    r
+}
