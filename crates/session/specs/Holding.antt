@@ -1,18 +1,16 @@
 -- Which records count as open. A host can fill a record by itself: one that breaks a clause here counts as closed. Definitions only.
-use Prim.Native.Nat.{ℕ}
 use mathlib.Core.Bool.{Bool, true, false, not, _||_}
 use lib.Dec.{eqb, leb, ltb}
 use Rattle.integers.specs.Tests.{_and_}
 use Rattle.axis.specs.declared.Axis.{Axis}
-use Rattle.axis.specs.Formulas.{presentMotion}
-use Rattle.axis.specs.Estimates.{inRange, sameMotion}
+use Rattle.axis.specs.Estimates.{sameMotion}
 use Rattle.axis.specs.Holding.{remaindersHold, samplesSmall, emptyZero}
 use Rattle.session.specs.declared.Point.{Point}
 use Rattle.session.specs.declared.Session.{Session}
 use Rattle.session.specs.declared.State.{State}
 use Rattle.session.specs.declared.State.the-variants.{Closed, Settled, Awaiting}
 use Rattle.session.specs.Numbers.{pointsHold, settingsHold, mostPoints}
-use Rattle.session.specs.Moves.{nowhere, predictedPoint}
+use Rattle.session.specs.Moves.{nowhere, presentPoint, estimateOf, predictedPoint, pointInRange}
 
 abbrev pub everyAxis : Session → (Axis → Bool) → Bool
 everyAxis s test = test (s .x) and test (s .y) and test (s .z)
@@ -21,19 +19,21 @@ everyAxis s test = test (s .x) and test (s .y) and test (s .z)
 unfoldable pub countsHold : Session → Bool
 countsHold s = pointsHold (s .points) and settingsHold (s .tolerance) (s .limit) and leb (s .accepted) mostPoints
 
--- the estimate is this point, in all six values
-unfoldable pub estimateIs : Session → Point → Bool
-estimateIs s q = sameMotion (s .x .estimate) (q .x) and sameMotion (s .y .estimate) (q .y) and sameMotion (s .z .estimate) (q .z)
+-- all six values are the same
+unfoldable pub samePoint : Point → Point → Bool
+samePoint q r = sameMotion (q .x) (r .x) and sameMotion (q .y) (r .y) and sameMotion (q .z) (r .z)
 
 -- a settled record has no estimate and no count
 unfoldable pub settledHolds : Session → Bool
-settledHolds s = eqb (s .corrections) 0 and estimateIs s nowhere
+settledHolds s = samePoint (estimateOf s) nowhere and eqb (s .corrections) 0
 
--- an awaiting one has a count below the limit, room for a point, and while the count is 0 its prediction for an estimate
+-- while no correction is counted, the estimate is the prediction
+unfoldable pub estimateBegins : Session → Bool
+estimateBegins s = not (eqb (s .corrections) 0) || samePoint (estimateOf s) (predictedPoint s)
+
+-- an awaiting one has a count below the limit, an estimate that began at its prediction, and room for a point
 unfoldable pub awaitingHolds : Session → Bool
-awaitingHolds s =
-    ltb (s .corrections) (s .limit) and ltb (s .accepted) mostPoints
-    and (not (eqb (s .corrections) 0) || estimateIs s (predictedPoint s))
+awaitingHolds s = ltb (s .corrections) (s .limit) and estimateBegins s and ltb (s .accepted) mostPoints
 
 abbrev pub stateHolds : State → Session → Bool
 stateHolds Closed s = false
@@ -47,8 +47,8 @@ holds s =
     countsHold s
     and everyAxis s (λ a. samplesSmall (a .samples))
     and everyAxis s remaindersHold
-    and everyAxis s (λ a. inRange (presentMotion (s .points) a))
-    and everyAxis s (λ a. inRange (a .estimate))
+    and pointInRange (presentPoint s)
+    and pointInRange (estimateOf s)
     and everyAxis s (λ a. emptyZero (s .points) (a .samples))
     and stateHolds (s .state) s
 

@@ -6,7 +6,7 @@ use lib.IntN.{ℤ}
 use Rattle.integers.specs.Tests.{_and_}
 use Rattle.ticks.specs.declared.WholeSample.{WholeSample}
 use Rattle.axis.specs.declared.Axis.{Axis}
-use Rattle.axis.specs.Formulas.{still, predictedMotion, correctedMotion, advancedAxis, openedAxis, emptyAxis}
+use Rattle.axis.specs.Formulas.{still, presentMotion, predictedMotion, correctedMotion, advancedAxis, openedAxis, emptyAxis}
 use Rattle.axis.specs.Estimates.{estimating, inRange}
 use Rattle.session.specs.declared.Point.{Point}
 use Rattle.session.specs.declared.Session.{Session}
@@ -17,6 +17,19 @@ use Rattle.session.specs.declared.State.the-variants.{Closed, Settled, A
 
 unfoldable pub nowhere : Point
 nowhere = record { x = still; y = still; z = still }
+
+-- the last accepted point
+unfoldable pub presentPoint : Session → Point
+presentPoint s =
+    record {
+      x = presentMotion (s .points) (s .x);
+      y = presentMotion (s .points) (s .y);
+      z = presentMotion (s .points) (s .z);
+    }
+
+-- the last estimate
+unfoldable pub estimateOf : Session → Point
+estimateOf s = record { x = s .x .estimate; y = s .y .estimate; z = s .z .estimate }
 
 -- the next point, predicted
 unfoldable pub predictedPoint : Session → Point

@@ -1,0 +1,220 @@
+-- What a record that holds is known to be, rule by rule, and that the arithmetic of the calls is then safe.
+use mathlib.Core.Path.{_≡_, refl, sym, ap, _∙_}
+use mathlib.Core.Logic.{_↔_}
+use mathlib.Core.Bool.{Bool, true, false, not, _||_, false≢true}
+use Prim.Native.Nat.{ℕ, _≤_, _<_}
+use native.Mathlib.Omega.{arith}
+use borrow.Author.Tests.{leb-true, le-leb, ltb-true, lt-ltb, eqb-true, eq-eqb}
+use lib.Dec.{eqb}
+use Rattle.integers.specs.Tests.{_and_, agree, joined}
+use Rattle.axis.specs.Estimates.{inRange}
+use Rattle.axis.specs.Holding.{axisHolds}
+use Rattle.session.specs.declared.Point.{Point}
+use Rattle.session.specs.declared.Session.{Session}
+use Rattle.session.specs.declared.State.{State}
+use Rattle.session.specs.declared.State.the-variants.{Closed, Settled, Awaiting}
+use Rattle.session.specs.Numbers.{pointsHold, settingsHold, mostPoints}
+use Rattle.session.specs.Moves.{nowhere, presentPoint, estimateOf, predictedPoint, pointInRange}
+use Rattle.session.specs.Holding.{countsHold, samePoint, settledHolds, estimateBegins, awaitingHolds, stateHolds, holds, isSettled, isAwaiting, settled, awaiting}
+use Rattle.session.specs.Ready.{ReadySession, Waiting}
+use Rattle.session.proofs.Axes.{holding-axis, axis-holds, axis-ready, estimate-placed, same-motion-true, same-motion-refl}
+
+-- ---- numbers
+
+pub points-hold : (p : ℕ) → (pointsHold p ≡ true) ↔ ((1 ≤ p) × (p ≤ 9))
+unfolding pointsHold
+points-hold p = (
+  (λ h. let (a, b) = simp joined at h in (leb-true 1 p a, leb-true p 9 b)),
+  (λ h. simp joined (le-leb 1 p (h .0), le-leb p 9 (h .1))),
+)
+
+pub settings-hold : (tolerance limit : ℕ) → (settingsHold tolerance limit ≡ true) ↔ ((tolerance ≤ 1048576) × ((1 ≤ limit) × (limit ≤ 8)))
+unfolding settingsHold
+settings-hold tolerance limit = (
+  (λ h. let (a, (b, c)) = simp joined at h in (leb-true tolerance 1048576 a, (leb-true 1 limit b, leb-true limit 8 c))),
+  (λ h. simp joined (le-leb tolerance 1048576 (h .0), (le-leb 1 limit (h .1 .0), le-leb limit 8 (h .1 .1)))),
+)
+
+-- ---- points
+
+pub axes-in-range : (q : Point) → (pointInRange q ≡ true) ↔ ((inRange (q .x) ≡ true) × ((inRange (q .y) ≡ true) × (inRange (q .z) ≡ true)))
+unfolding pointInRange
+axes-in-range q = ((λ h. simp joined at h), (λ h. simp joined h))
+
+pub same-point-true : (q r : Point) → samePoint q r ≡ true → q ≡ r
+unfolding samePoint
+same-point-true q r h =
+    let (x, (y, z)) = simp joined at h in
+    λ i. record { x = same-motion-true (q .x) (r .x) x i; y = same-motion-true (q .y) (r .y) y i; z = same-motion-true (q .z) (r .z) z i }
+
+pub same-point : (q r : Point) → q ≡ r → samePoint q r ≡ true
+unfolding samePoint
+same-point q r e = ap (λ p. samePoint p r) e ∙ simp joined (same-motion-refl (r .x), (same-motion-refl (r .y), same-motion-refl (r .z)))
+
+-- ---- every rule that a record that holds keeps
+
+-- those of every state
+pub record KeepsRules (s : Session) : Type 0 where
+  pub counts : countsHold s ≡ true
+  pub on-x : axisHolds (s .points) (s .x) ≡ true
+  pub on-y : axisHolds (s .points) (s .y) ≡ true
+  pub on-z : axisHolds (s .points) (s .z) ≡ true
+
+pub record Holding (s : Session) : Type 0 where
+  pub rules : KeepsRules s
+  pub state : stateHolds (s .state) s ≡ true
+
+pub holding : (s : Session) → holds s ≡ true → Holding s
+unfolding holds pointInRange presentPoint estimateOf
+holding s h =
+    let (c, ((xs, (ys, zs)), ((xr, (yr, zr)), ((xp, (yp, zp)), ((xe, (ye, ze)), ((xz, (yz, zz)), k)))))) = simp joined at h in
+    let x = axis-holds (s .points) (s .x) (record { small = xs; remainders = xr; present = xp; estimate = xe; empty = xz }) in
+    let y = axis-holds (s .points) (s .y) (record { small = ys; remainders = yr; present = yp; estimate = ye; empty = yz }) in
+    let z = axis-holds (s .points) (s .z) (record { small = zs; remainders = zr; present = zp; estimate = ze; empty = zz }) in
+    record { rules = record { counts = c; on-x = x; on-y = y; on-z = z }; state = k }
+
+pub holds-by : (s : Session) → Holding s → holds s ≡ true
+unfolding holds pointInRange presentPoint estimateOf
+holds-by s h =
+    let x = holding-axis (s .points) (s .x) (h .rules .on-x) in
+    let y = holding-axis (s .points) (s .y) (h .rules .on-y) in
+    let z = holding-axis (s .points) (s .z) (h .rules .on-z) in
+    simp joined (
+      h .rules .counts,
+      (
+        (x .small, (y .small, z .small)),
+        (
+          (x .remainders, (y .remainders, z .remainders)),
+          (
+            (x .present, (y .present, z .present)),
+            (
+              (x .estimate, (y .estimate, z .estimate)),
+              ((x .empty, (y .empty, z .empty)), h .state),
+            ),
+          ),
+        ),
+      ),
+    )
+
+-- the paper's rules, one for all axes after another, are the code's tests, one axis after another
+pub as-tested : (s : Session) → holds s ≡ (countsHold s and axisHolds (s .points) (s .x) and axisHolds (s .points) (s .y) and axisHolds (s .points) (s .z) and stateHolds (s .state) s)
+as-tested s =
+    agree (holds s) (countsHold s and axisHolds (s .points) (s .x) and axisHolds (s .points) (s .y) and axisHolds (s .points) (s .z) and stateHolds (s .state) s)
+    (λ t. let h = holding s t in simp joined (h .rules .counts, (h .rules .on-x, (h .rules .on-y, (h .rules .on-z, h .state)))))
+    (λ t. let (c, (x, (y, (z, k)))) = simp joined at t in holds-by s (record { rules = record { counts = c; on-x = x; on-y = y; on-z = z }; state = k }))
+
+-- ---- the counts
+
+pub record Counts (s : Session) : Type 0 where
+  pub points : (1 ≤ s .points) × (s .points ≤ 9)
+  pub tolerance : s .tolerance ≤ 1048576
+  pub limit : (1 ≤ s .limit) × (s .limit ≤ 8)
+  pub accepted : s .accepted ≤ mostPoints
+
+pub counts-are : (s : Session) → countsHold s ≡ true → Counts s
+unfolding countsHold
+counts-are s h =
+    let (p, (e, a)) = simp joined at h in
+    let (t, l) = settings-hold (s .tolerance) (s .limit) .0 e in
+    record { points = points-hold (s .points) .0 p; tolerance = t; limit = l; accepted = leb-true (s .accepted) mostPoints a }
+
+pub counts-hold : (s : Session) → Counts s → countsHold s ≡ true
+unfolding countsHold
+counts-hold s c =
+    simp joined (points-hold (s .points) .1 (c .points), (settings-hold (s .tolerance) (s .limit) .1 (c .tolerance, c .limit), le-leb (s .accepted) mostPoints (c .accepted)))
+
+-- ---- the arithmetic is safe
+
+pub ready : (s : Session) → KeepsRules s → ReadySession s
+ready s h =
+    let some = counts-are s (h .counts) .points in
+    record { on-x = axis-ready (s .points) (s .x) some (h .on-x); on-y = axis-ready (s .points) (s .y) some (h .on-y); on-z = axis-ready (s .points) (s .z) some (h .on-z) }
+
+-- ---- a settled record
+
+pub record Resting (s : Session) : Type 0 where
+  pub state : s .state ≡ Settled
+  pub estimate : estimateOf s ≡ nowhere
+  pub corrections : s .corrections ≡ 0
+
+settled-state : (k : State) → isSettled k ≡ true → k ≡ Settled
+settled-state Closed e = absurd (false≢true e)
+settled-state Settled e = refl
+settled-state Awaiting e = absurd (false≢true e)
+
+pub settled-holds : (s : Session) → settled s ≡ true → holds s ≡ true
+unfolding settled
+settled-holds s t = let (k, h) = simp joined at t in h
+
+pub resting : (s : Session) → settled s ≡ true → Resting s
+unfolding settled settledHolds
+resting s t =
+    let (k, h) = simp joined at t in
+    let e = settled-state (s .state) k in
+    let (q, c) = simp joined at (ap (λ k. stateHolds k s) (sym e) ∙ holding s h .state) in
+    record { state = e; estimate = same-point-true (estimateOf s) nowhere q; corrections = eqb-true (s .corrections) 0 c }
+
+pub settled-by : (s : Session) → KeepsRules s → Resting s → settled s ≡ true
+unfolding settled settledHolds
+settled-by s h r =
+    let k : settledHolds s ≡ true = simp joined (same-point (estimateOf s) nowhere (r .estimate), eq-eqb (s .corrections) 0 (r .corrections)) in
+    simp joined (ap isSettled (r .state), holds-by s (record { rules = h; state = ap (λ k. stateHolds k s) (r .state) ∙ k }))
+
+-- ---- an awaiting record
+
+pub record Expecting (s : Session) : Type 0 where
+  pub state : s .state ≡ Awaiting
+  pub corrections : s .corrections < s .limit
+  pub estimate : s .corrections ≡ 0 → estimateOf s ≡ predictedPoint s
+  pub accepted : s .accepted < mostPoints
+
+awaiting-state : (k : State) → isAwaiting k ≡ true → k ≡ Awaiting
+awaiting-state Closed e = absurd (false≢true e)
+awaiting-state Settled e = absurd (false≢true e)
+awaiting-state Awaiting e = refl
+
+pub awaiting-holds : (s : Session) → awaiting s ≡ true → holds s ≡ true
+unfolding awaiting
+awaiting-holds s t = let (k, h) = simp joined at t in h
+
+begins : (s : Session) → estimateBegins s ≡ true → s .corrections ≡ 0 → estimateOf s ≡ predictedPoint s
+unfolding estimateBegins
+begins s b e = same-point-true (estimateOf s) (predictedPoint s) (sym (ap (λ t. not t || samePoint (estimateOf s) (predictedPoint s)) (eq-eqb (s .corrections) 0 e)) ∙ b)
+
+begun : (s : Session) → (s .corrections ≡ 0 → estimateOf s ≡ predictedPoint s) → estimateBegins s ≡ true
+unfolding estimateBegins
+begun s f = by (eqb (s .corrections) 0) refl
+  where
+    by : (t : Bool) → eqb (s .corrections) 0 ≡ t → (not t || samePoint (estimateOf s) (predictedPoint s)) ≡ true
+    by true e = same-point (estimateOf s) (predictedPoint s) (f (eqb-true (s .corrections) 0 e))
+    by false e = refl
+
+pub expecting : (s : Session) → awaiting s ≡ true → Expecting s
+unfolding awaiting awaitingHolds
+expecting s t =
+    let (k, h) = simp joined at t in
+    let e = awaiting-state (s .state) k in
+    let (c, (b, a)) = simp joined at (ap (λ k. stateHolds k s) (sym e) ∙ holding s h .state) in
+    record { state = e; corrections = ltb-true (s .corrections) (s .limit) c; estimate = begins s b; accepted = ltb-true (s .accepted) mostPoints a }
+
+pub awaiting-by : (s : Session) → KeepsRules s → Expecting s → awaiting s ≡ true
+unfolding awaiting awaitingHolds
+awaiting-by s h r =
+    let k : awaitingHolds s ≡ true = simp joined (lt-ltb (s .corrections) (s .limit) (r .corrections), (begun s (r .estimate), lt-ltb (s .accepted) mostPoints (r .accepted))) in
+    simp joined (ap isAwaiting (r .state), holds-by s (record { rules = h; state = ap (λ k. stateHolds k s) (r .state) ∙ k }))
+
+-- what the arithmetic of a correction asks
+pub waiting : (s : Session) → awaiting s ≡ true → Waiting s
+waiting s t =
+    let h = holding s (awaiting-holds s t) .rules in
+    let c = counts-are s (h .counts) in
+    let r = expecting s t in
+    record {
+      ready = ready s h;
+      on-x = estimate-placed (s .points) (s .x) (c .points) (h .on-x);
+      on-y = estimate-placed (s .points) (s .y) (c .points) (h .on-y);
+      on-z = estimate-placed (s .points) (s .z) (c .points) (h .on-z);
+      tolerance = c .tolerance;
+      accepted = r .accepted;
+      corrections = omega (arith, c .limit .1, r .corrections);
+    }

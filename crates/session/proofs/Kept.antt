@@ -1,0 +1,156 @@
+-- Every record that the calls make holds, in the state that it says; the closed one does not, and is zero.
+use mathlib.Core.Path.{_≡_, refl, sym, _∙_}
+use mathlib.Core.Bool.{true, false}
+use mathlib.Core.List.{List}
+use Prim.Native.Nat.{ℕ, _+_, _<_}
+use native.Mathlib.Omega.{arith}
+use lib.IntN.{ℤ, pos}
+use lib.ListN.{replicate}
+use Rattle.exact.specs.Numerator.{exactOf, wholly}
+use Rattle.ticks.specs.declared.WholeSample.{WholeSample}
+use Rattle.ticks.specs.Samples.{WithinLimit}
+use Rattle.coefficients.specs.Formulas.{Small}
+use Rattle.axis.specs.declared.Axis.{Axis}
+use Rattle.axis.specs.Formulas.{motionOf, still, places, emptyAxis, advancedAxis, openedAxis}
+use Rattle.axis.specs.Estimates.{inRange}
+use Rattle.axis.specs.Ready.{Placed}
+use Rattle.session.specs.declared.Point.{Point}
+use Rattle.session.specs.declared.Session.{Session}
+use Rattle.session.specs.declared.State.the-variants.{Closed}
+use Rattle.session.specs.Numbers.{pointsHold, settingsHold, mostPoints}
+use Rattle.session.specs.Moves.{nowhere, estimateOf, predictedPoint, correctedPoint, pointInRange, settledAgain, awaitingAt, acceptedAt, openedSession, closedSession}
+use Rattle.session.specs.Holding.{countsHold, holds, settled, awaiting}
+use Rattle.session.specs.Ready.{PlacedPoint}
+use Rattle.session.proofs.Axes.{predicted-placed, corrected-placed, still-placed, estimating-holds, advanced-holds, opened-holds}
+use Rattle.session.proofs.Holding.{points-hold, settings-hold, axes-in-range, KeepsRules, holding, counts-are, counts-hold, settled-holds, resting, settled-by, awaiting-holds, expecting, awaiting-by}
+use Rattle.session.proofs.Present.{predicted-awaiting, estimate-awaiting}
+
+-- ---- points in range
+
+pub point-placed : (q : Point) → (inRange (q .x) ≡ true → Placed (q .x)) → (inRange (q .y) ≡ true → Placed (q .y)) → (inRange (q .z) ≡ true → Placed (q .z)) → pointInRange q ≡ true → PlacedPoint q
+point-placed q f g h r = let (x, (y, z)) = axes-in-range q .0 r in record { on-x = f x; on-y = g y; on-z = h z }
+
+pub predicted-point-placed : (s : Session) → pointInRange (predictedPoint s) ≡ true → PlacedPoint (predictedPoint s)
+unfolding predictedPoint
+predicted-point-placed s = point-placed (predictedPoint s) (predicted-placed (s .points) (s .x)) (predicted-placed (s .points) (s .y)) (predicted-placed (s .points) (s .z))
+
+pub corrected-point-placed : (s : Session) (w : WholeSample) → pointInRange (correctedPoint s w) ≡ true → PlacedPoint (correctedPoint s w)
+unfolding correctedPoint
+corrected-point-placed s w = point-placed (correctedPoint s w) (corrected-placed (s .points) (s .x) (w .x)) (corrected-placed (s .points) (s .y) (w .y)) (corrected-placed (s .points) (s .z) (w .z))
+
+-- ---- settled again: withdrawn, or refused by 8
+
+pub settled-again : (s : Session) → holds s ≡ true → settled (settledAgain s) ≡ true
+unfolding settledAgain countsHold estimateOf nowhere
+settled-again s t =
+    let h = holding s t .rules in
+    settled-by (settledAgain s)
+    (record {
+      counts = h .counts;
+      on-x = estimating-holds (s .points) (s .x) still (h .on-x) still-placed;
+      on-y = estimating-holds (s .points) (s .y) still (h .on-y) still-placed;
+      on-z = estimating-holds (s .points) (s .z) still (h .on-z) still-placed;
+    })
+    (record { state = refl; estimate = refl; corrections = refl })
+
+-- a settled record stays as it is
+pub settled-same : (s : Session) → settled s ≡ true → settledAgain s ≡ s
+unfolding settledAgain estimateOf nowhere
+settled-same s t =
+    let r = resting s t in
+    λ i. record {
+      state = sym (r .state) i;
+      points = s .points;
+      tolerance = s .tolerance;
+      limit = s .limit;
+      accepted = s .accepted;
+      corrections = sym (r .corrections) i;
+      x = record { first = s .x .first; second = s .x .second; samples = s .x .samples; estimate = sym (r .estimate) i .x };
+      y = record { first = s .y .first; second = s .y .second; samples = s .y .samples; estimate = sym (r .estimate) i .y };
+      z = record { first = s .z .first; second = s .z .second; samples = s .z .samples; estimate = sym (r .estimate) i .z };
+    }
+
+-- what a wait began with is what its end leaves
+pub settled-after : (s : Session) (n : ℕ) (q : Point) → settled s ≡ true → settledAgain (awaitingAt s n q) ≡ s
+unfolding awaitingAt settledAgain
+settled-after s n q t = settled-same s t
+
+-- ---- awaiting: predicted, or to be corrected again
+
+keeps-awaiting : (s : Session) (n : ℕ) (q : Point) → KeepsRules s → PlacedPoint q → KeepsRules (awaitingAt s n q)
+unfolding awaitingAt countsHold
+keeps-awaiting s n q h r =
+    record {
+      counts = h .counts;
+      on-x = estimating-holds (s .points) (s .x) (q .x) (h .on-x) (r .on-x);
+      on-y = estimating-holds (s .points) (s .y) (q .y) (h .on-y) (r .on-y);
+      on-z = estimating-holds (s .points) (s .z) (q .z) (h .on-z) (r .on-z);
+    }
+
+pub predicted-holds : (s : Session) → settled s ≡ true → s .accepted < mostPoints → pointInRange (predictedPoint s) ≡ true → awaiting (awaitingAt s 0 (predictedPoint s)) ≡ true
+unfolding awaitingAt
+predicted-holds s t room r =
+    let h = holding s (settled-holds s t) .rules in
+    let q = predictedPoint s in
+    awaiting-by (awaitingAt s 0 q) (keeps-awaiting s 0 q h (predicted-point-placed s r))
+    (record { state = refl; corrections = counts-are s (h .counts) .limit .0; estimate = λ e. estimate-awaiting s 0 q ∙ sym (predicted-awaiting s 0 q); accepted = room })
+
+pub again-holds : (s : Session) (q : Point) → awaiting s ≡ true → s .corrections + 1 < s .limit → PlacedPoint q → awaiting (awaitingAt s (s .corrections + 1) q) ≡ true
+unfolding awaitingAt
+again-holds s q t more r =
+    let n = s .corrections + 1 in
+    awaiting-by (awaitingAt s n q) (keeps-awaiting s n q (holding s (awaiting-holds s t) .rules) r)
+    (record { state = refl; corrections = more; estimate = λ e. absurd (omega arith); accepted = expecting s t .accepted })
+
+-- ---- accepted
+
+pub accepted-holds : (s : Session) (w : WholeSample) → awaiting s ≡ true → WithinLimit w → pointInRange (correctedPoint s w) ≡ true → settled (acceptedAt s w) ≡ true
+unfolding acceptedAt correctedPoint estimateOf nowhere advancedAxis
+accepted-holds s w t l r =
+    let h = holding s (awaiting-holds s t) .rules in
+    let c = counts-are s (h .counts) in
+    let (x, (y, z)) = axes-in-range (correctedPoint s w) .0 r in
+    settled-by (acceptedAt s w)
+    (record {
+      counts = counts-hold (acceptedAt s w) (record { points = c .points; tolerance = c .tolerance; limit = c .limit; accepted = omega (arith, expecting s t .accepted) });
+      on-x = advanced-holds (s .points) (s .x) (w .x) (h .on-x) (l .on-x) x;
+      on-y = advanced-holds (s .points) (s .y) (w .y) (h .on-y) (l .on-y) y;
+      on-z = advanced-holds (s .points) (s .z) (w .z) (h .on-z) (l .on-z) z;
+    })
+    (record { state = refl; estimate = refl; corrections = refl })
+
+-- ---- opened
+
+pub opened-session-holds : (p tolerance limit : ℕ) (q : Point) (xs ys zs : List ℤ) → pointsHold p ≡ true → settingsHold tolerance limit ≡ true → PlacedPoint q → Small xs → Small ys → Small zs
+    → settled (openedSession p tolerance limit q (places p xs) (places p ys) (places p zs)) ≡ true
+unfolding openedSession estimateOf nowhere openedAxis
+opened-session-holds p tolerance limit q xs ys zs a b r sx sy sz =
+    let s = openedSession p tolerance limit q (places p xs) (places p ys) (places p zs) in
+    let (t, l) = settings-hold tolerance limit .0 b in
+    settled-by s
+    (record {
+      counts = counts-hold s (record { points = points-hold p .0 a; tolerance = t; limit = l; accepted = omega arith });
+      on-x = opened-holds p (q .x) xs (r .on-x) sx;
+      on-y = opened-holds p (q .y) ys (r .on-y) sy;
+      on-z = opened-holds p (q .z) zs (r .on-z) sz;
+    })
+    (record { state = refl; estimate = refl; corrections = refl })
+
+-- ---- closed
+
+pub closed-fails : holds closedSession ≡ false
+unfolding holds countsHold pointsHold closedSession
+closed-fails = refl
+
+abbrev zeros : Axis
+zeros =
+    record {
+      first = wholly (pos 0);
+      second = wholly (pos 0);
+      samples = replicate 9 (pos 0);
+      estimate = record { position = wholly (pos 0); velocity = wholly (pos 0) };
+    }
+
+pub closed-is-zero : closedSession ≡ record { state = Closed; points = 0; tolerance = 0; limit = 0; accepted = 0; corrections = 0; x = zeros; y = zeros; z = zeros }
+unfolding closedSession emptyAxis still motionOf exactOf
+closed-is-zero = refl

@@ -1,0 +1,4 @@
+pub mod Axes
+pub mod Holding
+pub mod Kept
+pub mod Present
