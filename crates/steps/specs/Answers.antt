@@ -1,5 +1,6 @@
 -- The paper's number and values of every answer: zeros where an answer carries nothing. Definitions only.
-use Prim.Native.Nat.{ℕ}
+use Prim.Native.Nat.{ℕ, zero, suc}
+use mathlib.Core.Path.{_≡_}
 use lib.IntN.{pos}
 use Rattle.exact.specs.declared.Reported.{Reported}
 use Rattle.exact.specs.Numerator.{exactOf}
@@ -48,6 +49,11 @@ pub record Answer : Type 0 where
 abbrev pub answer : ℕ → ℕ → ReportedPoint → Reported → Answer
 answer number kind point change = record { number = number; kind = kind; point = point; change = change }
 
+-- what only a call that is not refused carries
+abbrev pub unless : {A : Type 0} → ℕ → A → A → A
+unless zero value none = value
+unless (suc n) value none = none
+
 -- the number, and zero in every other field
 abbrev pub refused : ℕ → Answer
 refused n = answer n 0 noPoint noChange
@@ -68,3 +74,25 @@ correctionAnswer (C.Refused n) = refused n
 abbrev pub withdrawalAnswer : Withdrawal → Answer
 withdrawalAnswer W.Withdrawn = answer 0 0 noPoint noChange
 withdrawalAnswer (W.Refused n) = refused n
+
+-- ---- a refusal's number is not 0
+
+abbrev pub NotZero : ℕ → Type 0
+NotZero n = n ≡ 0 → ⊥
+
+abbrev pub NumberedOpening : Opening → Type 0
+NumberedOpening O.Opened = Unit {0}
+NumberedOpening (O.Refused n) = NotZero n
+
+abbrev pub NumberedPrediction : Prediction → Type 0
+NumberedPrediction (P.Predicted q) = Unit {0}
+NumberedPrediction (P.Refused n) = NotZero n
+
+abbrev pub NumberedCorrection : Correction → Type 0
+NumberedCorrection (C.Accepted q) = Unit {0}
+NumberedCorrection (C.Again q c) = Unit {0}
+NumberedCorrection (C.Refused n) = NotZero n
+
+abbrev pub NumberedWithdrawal : Withdrawal → Type 0
+NumberedWithdrawal W.Withdrawn = Unit {0}
+NumberedWithdrawal (W.Refused n) = NotZero n

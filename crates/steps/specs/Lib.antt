@@ -4,4 +4,5 @@ pub mod Opening
 pub mod Refusals
 pub mod Steps
 pub mod Unrefused
+pub mod Faithful
 pub mod Figures
