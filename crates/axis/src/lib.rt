@@ -1,9 +1,23 @@
 // One axis of a session: its sums and samples, the points that they give, and whether they keep the rules.
 use exact::Exact;
 
-// pub mod formulas;
-// pub mod holding;
-// pub mod estimates;
+mod estimates;
+mod formulas;
+mod holding;
+
+pub use estimates::agrees_on;
+pub use estimates::change;
+pub use estimates::in_range;
+pub use estimates::same_motion;
+pub use estimates::with_estimate;
+pub use formulas::advanced_axis;
+pub use formulas::corrected_motion;
+pub use formulas::empty_axis;
+pub use formulas::no_motion;
+pub use formulas::opened_axis;
+pub use formulas::predicted_motion;
+pub use formulas::present_motion;
+pub use holding::axis_holds;
 
 // A position and its velocity.
 pub struct Motion {

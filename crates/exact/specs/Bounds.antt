@@ -1,17 +1,17 @@
 -- The ranges of exact values: a `Bounded h` value has a numerator within ± h D, and so have sums and differences of such values.
-use mathlib.Core.Path.{_≡_, sym, ap, _∙_}
+use mathlib.Core.Path.{_≡_}
 use mathlib.Core.Bool.{true}
 use Prim.Native.Nat.{ℕ, _+_, _*_, _^_, _≤_, _<_}
 use native.Mathlib.Omega.{arith}
-use lib.Dec.{T, leb, leb→le, lit<}
-use lib.IntN.{ℤ, pos, negℤ, natAbs, _+ℤ_, _-ℤ_, _*ℤ_}
+use lib.Dec.{T, leb, leb→le}
+use lib.IntN.{ℤ, pos, natAbs, _+ℤ_, _-ℤ_}
 use mir.Syntax.{w64}
 use mir.Val.{SFits}
 use Rattle.integers.specs.Tests.{joined}
-use Rattle.integers.specs.Parts.{posPart, negPart, integers, Within, sfits-within, neg-parts, +-parts, difference-parts, natAbs-parts}
+use Rattle.integers.specs.Parts.{integers, Within, sfits-within, neg-parts, +-parts, difference-parts, natAbs-parts}
 use Rattle.exact.specs.declared.Exact.{Exact}
 use Rattle.exact.specs.Numerator.{D, exactOf, numerator, wholly, between, Bounded}
-use Rattle.exact.specs.Laws.{numerator-parts, numerator-exactOf, part-below, made}
+use Rattle.exact.specs.Laws.{numerator-parts, numerator-exactOf, part-below}
 
 pub wider : (h k : ℕ) (e : Exact) → Bounded h e → h ≤ k → Bounded k e
 wider h k e b l = omega (integers, neg-parts (pos h), neg-parts (pos k))

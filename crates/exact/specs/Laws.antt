@@ -1,10 +1,10 @@
 -- Every multiple of 1 / D is one exact value: `exactOf` and `numerator` undo each other. How a result is shown to be an exact value, and how two are compared.
 use mathlib.Core.Path.{_≡_, refl, sym, ap, ap₂, _∙_}
 use mathlib.Core.Bool.{Bool, true, false, cond}
-use Prim.Native.Nat.{ℕ, suc, max, _+_, _*_, _<_, _≤_}
+use Prim.Native.Nat.{ℕ, max, _+_, _*_, _<_}
 use native.Mathlib.Omega.{arith}
-use lib.Dec.{lit<, eqb, leb}
-use lib.IntN.{ℤ, pos, negsuc, _+ℤ_, _*ℤ_, +ℤ-idr}
+use lib.Dec.{lit<, leb}
+use lib.IntN.{ℤ, pos, _+ℤ_, _*ℤ_, +ℤ-idr}
 use lib.Signed.{leZ, ltZ}
 use borrow.Author.Tests.{eq-eqb, eqb-true, leb-true, leb-false}
 use Rattle.integers.specs.Tests.{_and_, eqℤ-true, eqℤ-refl, agree, joined}

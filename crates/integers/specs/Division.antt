@@ -1,15 +1,15 @@
 -- Division by a positive natural number, rounded down, and the machine's `/` and `%`, which round toward zero.
 use mathlib.Core.Path.{_≡_, refl, sym, ap, _∙_}
-use mathlib.Core.Logic.{_↔_, _⊎_, inl, inr}
-use Prim.Native.Nat.{ℕ, zero, suc, _+_, _*_, _-_, _/_, _%_, _<_}
+use mathlib.Core.Logic.{_⊎_, inl, inr}
+use Prim.Native.Nat.{ℕ, suc, _+_, _*_, _-_, _/_, _%_, _<_}
 use native.Mathlib.Nat.{div-add-mod', mod-lt, zero-div, zero-mod}
 use native.Mathlib.Omega.{arith}
-use lib.IntN.{ℤ, pos, negsuc, _+ℤ_, _-ℤ_, _*ℤ_}
+use lib.IntN.{ℤ, pos, negsuc, _+ℤ_, _*ℤ_}
 use lib.Signed.{_≤ℤ_, _<ℤ_, quotZ, remZ}
 use Rattle.integers.specs.Ring.{*ℤ-distrib-right, one-*ℤ, +ℤ-cancel-left}
 use Rattle.integers.specs.Parts.{posPart, negPart, integers, neg-parts}
 use Rattle.integers.specs.Bridge.{parts, differences}
-use Rattle.integers.specs.Order.{≤ℤ-trans, ≤ℤ-antisym, ≡→≤ℤ, ≤ℤ-or-<ℤ, +1≤ℤ, 0≤-ℤ, *ℤ-mono-right}
+use Rattle.integers.specs.Order.{≤ℤ-antisym, ≤ℤ-or-<ℤ, +1≤ℤ, *ℤ-mono-right}
 
 -- the quotient rounded down
 abbrev pub floorDiv : ℤ → ℕ → ℤ
@@ -50,19 +50,6 @@ floor-unique z q s d e hs ht =
     let m : pos (floorMod z d) <ℤ pos d = omega (integers, floorMod-< z d h) in
     let same : floorDiv z d ≡ q = ≤ℤ-antisym (below (floorDiv z d) q (pos (floorMod z d)) s d l (omega integers) ht) (below q (floorDiv z d) s (pos (floorMod z d)) d (sym l) hs m) in
     (same, +ℤ-cancel-left (q *ℤ pos d) (ap (λ f. f *ℤ pos d +ℤ pos (floorMod z d)) (sym same) ∙ l))
-
--- q d ≤ z exactly when q is at most the quotient
-fill : (x z : ℤ) → x +ℤ (z -ℤ x) ≡ z
-fill x z = rw (parts x, parts z) (simp differences (omega arith))
-
-more : (x : ℤ) (m : ℕ) → x ≤ℤ (x +ℤ pos m)
-more x m = rw (parts x) (simp differences (omega arith))
-
-pub floor-≤ : (q z : ℤ) (d : ℕ) → 0 < d → ((q *ℤ pos d) ≤ℤ z) ↔ (q ≤ℤ floorDiv z d)
-floor-≤ q z d h = (
-  (λ l. below q (floorDiv z d) (z -ℤ q *ℤ pos d) (pos (floorMod z d)) d (fill (q *ℤ pos d) z ∙ floor-law z d h) (0≤-ℤ (q *ℤ pos d) z .1 l) (omega (integers, floorMod-< z d h))),
-  (λ l. ≤ℤ-trans (*ℤ-mono-right (pos d) (omega integers) l) (≤ℤ-trans (more (floorDiv z d *ℤ pos d) (floorMod z d)) (≡→≤ℤ (sym (floor-law z d h))))),
-)
 
 -- ---- the machine's `/` and `%`
 

@@ -1,8 +1,8 @@
 -- The laws of `_≤ℤ_` and `_<ℤ_` (`lib.Signed`, which has `≤ℤ-refl` and `<ℤ-≤ℤ-trans`), their tests both ways, and products.
 use mathlib.Core.Path.{_≡_, refl, sym, ap, _∙_}
 use mathlib.Core.Logic.{_↔_, _≢_, _⊎_, inl, inr}
-use Prim.Native.Nat.{ℕ, zero, suc, _+_, _*_, _≤_, _<_}
-use native.Mathlib.Nat.{mul-le-mul-left, le-of-mul-le-mul-left, eq-of-mul-eq-mul-left}
+use Prim.Native.Nat.{zero, suc, _+_, _*_, _≤_, _<_}
+use native.Mathlib.Nat.{mul-le-mul-left, le-of-mul-le-mul-left}
 use native.Mathlib.Decide.{decLe}
 use native.Mathlib.Omega.{arith}
 use lib.IntN.{ℤ, pos, negsuc, negℤ, natAbs, _+ℤ_, _-ℤ_, _*ℤ_, *ℤ-comm}
@@ -10,7 +10,7 @@ use lib.Signed.{_≤ℤ_, _<ℤ_, ltZ, leZ}
 use mathlib.Core.Bool.{true, false}
 use Rattle.integers.specs.Ring.{negℤ-*ℤ-left}
 use Rattle.integers.specs.Parts.{posPart, negPart, one-part, natAbs-parts, integers, ≤-parts, parts-≤, difference-parts, *-parts}
-use Rattle.integers.specs.Bridge.{_⊖_, parts, differences}
+use Rattle.integers.specs.Bridge.{parts, differences}
 
 pub ≤ℤ-trans : {a b c : ℤ} → a ≤ℤ b → b ≤ℤ c → a ≤ℤ c
 ≤ℤ-trans h k = omega integers
@@ -61,12 +61,8 @@ module _ (a b : ℤ) where
 
 -- ---- sums and differences
 
-module _ (a b : ℤ) where
-  pub 0≤-ℤ : (pos 0 ≤ℤ (b -ℤ a)) ↔ (a ≤ℤ b)
-  0≤-ℤ = rw (parts a, parts b) (simp differences (omega arith))
-
-  pub +1≤ℤ : ((a +ℤ pos 1) ≤ℤ b) ↔ (a <ℤ b)
-  +1≤ℤ = rw (parts a, parts b) (simp differences (omega arith))
+pub +1≤ℤ : (a b : ℤ) → ((a +ℤ pos 1) ≤ℤ b) ↔ (a <ℤ b)
++1≤ℤ a b = rw (parts a, parts b) (simp differences (omega arith))
 
 -- how far a and b are apart: the larger less the smaller
 module _ {a b : ℤ} where

@@ -1,5 +1,5 @@
 -- An integer z as two natural numbers, `posPart z` less `negPart z`, of which one is 0. Each law says in these what an operation, an order or a range is: that is linear, so `omega` reads it.
-use mathlib.Core.Path.{_≡_, refl, sym, ap, _∙_, subst}
+use mathlib.Core.Path.{_≡_, refl, sym, ap, subst}
 use mathlib.Core.Bool.{Bool, true, false, not, cond, true≢false}
 use Prim.Native.Nat.{ℕ, zero, suc, _+_, _*_, _-_, _≤_, _<_, _^_, min, max}
 use native.Mathlib.Omega.{arith}

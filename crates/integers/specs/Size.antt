@@ -1,7 +1,7 @@
 -- How large sums, differences and products are, and that a machine word holds them.
 -- `search sizes`, in the place of `search needs`, closes a `Need-add`, `Need-sub` or `Need-mul` of signed integers whose two operands have a `Sized` in reach.
-use mathlib.Core.Path.{_≡_, refl, sym, ap, _∙_}
-use Prim.Native.Nat.{ℕ, zero, suc, _+_, _*_, _^_, _≤_, _<_}
+use mathlib.Core.Path.{_≡_, sym}
+use Prim.Native.Nat.{ℕ, _+_, _*_, _^_, _≤_, _<_}
 use native.Mathlib.Nat.{mul-le-mul}
 use native.Mathlib.Omega.{arith}
 use lib.IntN.{ℤ, pos, negsuc, negℤ, natAbs, _+ℤ_, _-ℤ_, _*ℤ_}
@@ -13,7 +13,7 @@ use borrow.Author.Needs.{needs}
 use mir.Syntax.{Width}
 use mir.Val.{Fits, SFits, bits, hbits}
 use Rattle.integers.specs.Tests.{agree}
-use Rattle.integers.specs.Parts.{posPart, negPart, Sized, integers, +-parts, difference-parts, *-parts, neg-parts, natAbs-parts, one-part}
+use Rattle.integers.specs.Parts.{Sized, integers, +-parts, difference-parts, *-parts, neg-parts, natAbs-parts, one-part}
 use Rattle.integers.specs.Bridge.{parts, differences}
 
 module _ (a b : ℤ) where

@@ -156,12 +156,12 @@ module _ (p : ℕ) (a : Axis) (some : (1 ≤ p) × (p ≤ 9)) (h : axisHolds p a
 
   first-bounded : Bounded (2 ^ 41) (a .first)
   unfolding vc motionOf
-  first-bounded = widen (2 ^ 41) (before-move (2 ^ 40) (a .first) vc (rests .first) (weighted-fits VelocityCorrector p (a .samples) some small) (present-placed .velocity)) tt
+  first-bounded = widen (2 ^ 41) (before-move (2 ^ 40) (a .first) vc (rests .first) (weighted-fits VelocityCorrector p some (at (a .samples)) (small .small)) (present-placed .velocity)) tt
 
   second-bounded : Bounded (2 ^ 54) (a .second)
   unfolding pc motionOf
   second-bounded =
-      widen (2 ^ 54) (before-difference (2 ^ 52) (2 ^ 41) (a .second) (a .first) pc (rests .second) first-bounded (weighted-fits PositionCorrector p (a .samples) some small) (present-placed .position)) tt
+      widen (2 ^ 54) (before-difference (2 ^ 52) (2 ^ 41) (a .second) (a .first) pc (rests .second) first-bounded (weighted-fits PositionCorrector p some (at (a .samples)) (small .small)) (present-placed .position)) tt
 
   pub axis-ready : Ready p a
   axis-ready = record { some = some; first = widen (2 ^ 42) first-bounded tt; second = second-bounded; small = small }

@@ -22,7 +22,7 @@ use Rattle.session.specs.Moves.{nowhere, estimateOf, predictedPoint, cor
 use Rattle.session.specs.Holding.{countsHold, holds, settled, awaiting}
 use Rattle.session.specs.Ready.{PlacedPoint}
 use Rattle.session.proofs.Axes.{predicted-placed, corrected-placed, still-placed, estimating-holds, advanced-holds, opened-holds}
-use Rattle.session.proofs.Holding.{points-hold, settings-hold, axes-in-range, KeepsRules, holding, counts-are, counts-hold, settled-holds, resting, settled-by, awaiting-holds, expecting, awaiting-by}
+use Rattle.session.proofs.Rules.{points-hold, settings-hold, axes-in-range, KeepsRules, holding, counts-are, counts-hold, settled-holds, resting, settled-by, awaiting-holds, expecting, awaiting-by}
 use Rattle.session.proofs.Present.{predicted-awaiting, estimate-awaiting}
 
 -- ---- points in range

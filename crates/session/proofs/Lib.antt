@@ -1,4 +1,4 @@
 pub mod Axes
-pub mod Holding
+pub mod Rules
 pub mod Kept
 pub mod Present

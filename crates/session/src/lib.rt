@@ -2,9 +2,22 @@
 use axis::Axis;
 use axis::Motion;
 
-// pub mod numbers;
-// pub mod holding;
-// pub mod moves;
+mod holding;
+mod moves;
+mod numbers;
+
+pub use holding::is_awaiting;
+pub use holding::is_open;
+pub use holding::is_settled;
+pub use moves::accept;
+pub use moves::await_at;
+pub use moves::closed;
+pub use moves::corrected_point;
+pub use moves::open_at;
+pub use moves::predicted_point;
+pub use moves::settle;
+pub use numbers::points_hold;
+pub use numbers::settings_hold;
 
 pub enum State {
     Closed,

@@ -124,6 +124,7 @@ module _ (s : Session) (a : Sample) where
       by : (t : Bool) → correctionAnswer (judged t s (wholeOf a) corrected .answer) ≡ answer 0 (cond t 1 2) (reportedPoint corrected) (cond t noChange (reportedChange (largestChange s corrected)))
       by true = refl
       by false = refl
+
       go : (n : ℕ) → correctionAnswer (correctBy n s (wholeOf a) .answer) ≡ answer n (unless n (cond (agrees s corrected) 1 2) 0) (unless n (reportedPoint corrected) noPoint) (unless n (cond (agrees s corrected) noChange (reportedChange (largestChange s corrected))) noChange)
       go zero = by (agrees s corrected)
       go (suc n) = refl
@@ -135,6 +136,7 @@ module _ (s : Session) (a : Sample) where
       by : (t : Bool) → NumberedCorrection (judged t s (wholeOf a) corrected .answer)
       by true = tt
       by false = tt
+
       go : (n : ℕ) → NumberedCorrection (correctBy n s (wholeOf a) .answer)
       go zero = by (agrees s corrected)
       go (suc n) = suc-ne-zero n

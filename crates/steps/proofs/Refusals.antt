@@ -107,10 +107,9 @@ module _ (p tolerance limit : ℕ) (start : Start) (floats : List Float) where
   pub open-0 : (number ≡ 0) ↔ Openable p tolerance limit start floats
   unfolding openRefusal openRules sampleRules
   open-0 =
-      let h = simp joined at (none-passes rules refl) in
-      (
+      let h = simp joined at (none-passes rules refl) in (
         (λ e. let (a, (b, (c, (d, (f, (g, _)))))) = h .0 e in record { points = a; enough = eqb-true (length floats) (3 * p) b; settings = c; range = d; faultless = faultless floats f g }),
-        (λ r. let (f, g) = no-fault floats (r .faultless) in h .1 (r .points, (eq-eqb (length floats) (3 * p) (r .enough), (r .settings, (r .range, (f, (g, tt)))))))
+        (λ r. let (f, g) = no-fault floats (r .faultless) in h .1 (r .points, (eq-eqb (length floats) (3 * p) (r .enough), (r .settings, (r .range, (f, (g, tt))))))),
       )
 
   pub open-numbers : Among number (0 ∷ 1 ∷ 2 ∷ 3 ∷ 6 ∷ 4 ∷ 5 ∷ [])
@@ -177,10 +176,9 @@ module _ (s : Session) (a : Sample) where
   pub correct-0 : (correctRefusal s a ≡ 0) ↔ Correctable s a
   unfolding correctRefusal correctRules sampleRules pointRules
   correct-0 =
-      let h = simp joined at (none-passes (correctRules s a) refl) in
-      (
+      let h = simp joined at (none-passes (correctRules s a) refl) in (
         (λ e. let (b, (c, (d, (f, (g, _))))) = h .0 e in record { standing = b; faultless = faultless (axesOf a) c d; range = f; more = g }),
-        (λ r. let (c, d) = no-fault (axesOf a) (r .faultless) in h .1 (r .standing, (c, (d, (r .range, (r .more, tt))))))
+        (λ r. let (c, d) = no-fault (axesOf a) (r .faultless) in h .1 (r .standing, (c, (d, (r .range, (r .more, tt)))))),
       )
 
   pub correct-numbers : Among (correctRefusal s a) (0 ∷ 7 ∷ 4 ∷ 5 ∷ 6 ∷ 8 ∷ [])

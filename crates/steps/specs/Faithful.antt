@@ -1,11 +1,14 @@
--- What holds of every exact value that an answer carries: it stands beside its report, and both casts of the report lose nothing. Definitions only.
+-- What holds of every exact value that an answer carries: it stands beside its report, both casts of the report lose nothing, and the report is no NaN,
+-- no infinity and no minus zero. Definitions only.
 use mathlib.Core.Path.{_≡_}
 use Prim.Native.Nat.{_≤_, _<_, _^_}
+use lib.Dec.{T}
 use lib.IntN.{pos, natAbs}
 use lib.Ieee.{binary64, ofInt, toSigned, toUnsigned}
 use Rattle.exact.specs.declared.Reported.{Reported}
 use Rattle.exact.specs.Numerator.{D}
 use Rattle.exact.specs.Report.{reportOf}
+use Rattle.exact.specs.Rounding.{ordinary}
 use Rattle.steps.specs.declared.ReportedMotion.{ReportedMotion}
 use Rattle.steps.specs.declared.ReportedPoint.{ReportedPoint}
 use Rattle.steps.specs.Answers.{Answer}
@@ -17,6 +20,7 @@ pub record Faithful (r : Reported) : Type 0 where
   -- each cast, cast back
   pub part-back : toUnsigned 32 (ofInt binary64 (pos (r .exact .part))) ≡ r .exact .part
   pub whole-back : toSigned 63 (ofInt binary64 (r .exact .whole)) ≡ r .exact .whole
+  pub ordinary : T (ordinary (r .report))
 
 pub record FaithfulMotion (m : ReportedMotion) : Type 0 where
   pub position : Faithful (m .position)

@@ -2,11 +2,17 @@
 use exact::Reported;
 use session::Session;
 
-// pub mod reports;
-// pub mod opens;
-// pub mod predicts;
-// pub mod corrects;
-// pub mod withdraws;
+mod checks;
+mod corrects;
+mod opens;
+mod predicts;
+mod reports;
+mod withdraws;
+
+pub use corrects::correct_step;
+pub use opens::open_step;
+pub use predicts::predict_step;
+pub use withdraws::withdraw_step;
 
 // A position and a velocity, each beside its report.
 pub struct ReportedMotion {

@@ -1,5 +1,6 @@
 -- `Exact::larger` meets its contract: by the comparison.
-use mathlib.Core.Path.{refl, sym, _∙_}
+use mathlib.Core.Path.{sym, ap, _∙_}
+use mathlib.Core.Bool.{Bool, cond}
 use borrow.Author.Needs.{needs}
 use Rattle.exact.specs.Numerator.{largerOf}
 use Rattle.exact.proofs.Exact.larger.Statement.{statement}
@@ -10,11 +11,15 @@ at-most-requires c κs = search needs
 
 returns : tie.Need-returns
 unfolding largerOf
-returns c = rw (sym (c .before .at-most .ensures) ∙ c .if1 .taken) refl
+returns c =
+    let a = c .before .before .args in
+    sym (ap (λ (t : Bool). cond t (a .other) (a .self)) (sym (c .before .at-most .ensures) ∙ c .if1 .taken))
 
 returns-2 : tie.Need-returns-2
 unfolding largerOf
-returns-2 c = rw (sym (c .before .at-most .ensures) ∙ c .if1 .left) refl
+returns-2 c =
+    let a = c .before .before .args in
+    sym (ap (λ (t : Bool). cond t (a .other) (a .self)) (sym (c .before .at-most .ensures) ∙ c .if1 .left))
 
 pub larger-spec : {M : Type 1} → statement M
 larger-spec = tie.close (tie.spec at-most-requires returns returns-2)

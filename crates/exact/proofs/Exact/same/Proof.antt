@@ -4,7 +4,7 @@ use lib.Dec.{eqb}
 use borrow.Author.Needs.{needs}
 use borrow.Author.Tests.{eq-eqb, ne-eqb}
 use mir.Syntax.{w64}
-use mir.Val.{SFits, ofZ}
+use mir.Val.{ofZ}
 use Rattle.integers.specs.Tests.{and-no, and-yes, eqℤ, eqℤ-bits}
 use Rattle.exact.specs.Numerator.{sameExact}
 use Rattle.exact.proofs.Exact.same.Statement.{statement}

@@ -2,7 +2,6 @@
 use mathlib.Core.Path.{_≡_}
 use mathlib.Core.Bool.{true, false}
 use Prim.Native.Nat.{_-_, _^_}
-use native.Mathlib.Omega.{arith}
 use lib.Dec.{T}
 use lib.IntN.{ℤ, pos, natAbs, _+ℤ_, _-ℤ_, _*ℤ_}
 use lib.Signed.{nonNeg, ltZ}
@@ -11,7 +10,7 @@ use mir.Val.{Fits, SFits}
 use mir.Facts.{toZ-ofZ}
 use borrow.Author.Needs.{needs}
 use Rattle.integers.specs.Parts.{Sized, integers, +-parts, difference-parts, multiple-parts, natAbs-parts, one-part}
-use Rattle.integers.specs.Size.{sizes, cast-fits}
+use Rattle.integers.specs.Size.{cast-fits}
 use Rattle.exact.specs.Numerator.{D, exactOf}
 use Rattle.exact.specs.Laws.{is-exactOf}
 use Rattle.exact.proofs.Exact.settle.Statement.{statement}

@@ -1,0 +1,4 @@
+-- Laws over the crate's definitions.
+pub mod Sums
+pub mod Places
+pub mod Sound

@@ -1,0 +1,12 @@
+-- `axis::formulas::empty_axis` meets its contract: all is zero.
+use Rattle.exact.specs.Numerator.{exactOf}
+use Rattle.axis.specs.Formulas.{emptyAxis}
+use Rattle.axis.proofs.formulas.empty_axis.Statement.{statement}
+use Rattle.axis.proofs.formulas.empty_axis.Tie as tie
+
+returns : tie.Need-returns
+unfolding emptyAxis exactOf
+returns c = rw (c .no-motion .ensures)
+
+pub empty-axis-spec : {M : Type 1} → statement M
+empty-axis-spec = tie.close (tie.spec (λ c κs. tt) returns)

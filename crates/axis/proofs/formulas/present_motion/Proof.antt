@@ -1,0 +1,39 @@
+-- `axis::formulas::present_motion` meets its contract: the two formulas.
+use mathlib.Core.Path.{_∙_, ap}
+use Prim.Native.Nat.{_^_}
+use borrow.Author.Needs.{needs, sfits-of}
+use lib.IntN.{_+ℤ_}
+use Rattle.integers.specs.Differences.{at, byDifferences}
+use Rattle.exact.specs.Numerator.{exactOf, numerator}
+use Rattle.exact.specs.Laws.{made}
+use Rattle.exact.specs.Bounds.{widen, difference-within}
+use Rattle.coefficients.specs.Formulas.{positionCorrector}
+use Rattle.axis.specs.Formulas.{presentMotion}
+use Rattle.axis.proofs.Sums.{through, motion-is}
+use Rattle.axis.proofs.formulas.present_motion.Statement.{statement}
+use Rattle.axis.proofs.formulas.present_motion.Tie as tie
+
+subtract-requires : tie.Need-subtract-requires
+subtract-requires c κs = (widen (2 ^ 62) (c .before .pre .second) tt, widen (2 ^ 62) (c .before .pre .first) tt)
+
+moved-requires : tie.Need-moved-requires
+moved-requires c κs =
+    let b = c .before .before .before in
+    rw (c .before .subtract .ensures) (widen (2 ^ 61) (difference-within (b .pre .second) (b .pre .first)) tt)
+
+moved-requires-2 : tie.Need-moved-requires-2
+moved-requires-2 c κs = widen (2 ^ 61) (c .before .before .before .before .before .pre .first) tt
+
+returns : tie.Need-returns
+unfolding presentMotion
+returns c =
+    let d = c .before .before .before .before in
+    let a = d .before .before .args .a in
+    let sum = byDifferences (positionCorrector (d .before .before .args .p)) (at (a .samples)) in
+    motion-is _ _
+    (through (λ z. exactOf (numerator (d .subtract .result) +ℤ z)) _ (c .before .before .moved .ensures) (sfits-of (c .before .before .before .position-corrector .ok)) (c .before .before .before .position-corrector .ensures)
+    ∙ ap (λ s. exactOf (s +ℤ sum)) (made _ (d .subtract .ensures)))
+    (through (λ z. exactOf (numerator (a .first) +ℤ z)) _ (c .moved2 .ensures) (sfits-of (c .before .velocity-corrector .ok)) (c .before .velocity-corrector .ensures))
+
+pub present-motion-spec : {M : Type 1} → statement M
+present-motion-spec = tie.close (tie.spec subtract-requires (λ c κs. search needs) moved-requires (λ c κs. search needs) moved-requires-2 returns)

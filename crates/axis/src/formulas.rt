@@ -1,0 +1,153 @@
+// The stepping formulas on one axis.
+use crate::Axis;
+use crate::Motion;
+use coefficients::Formula;
+use exact::Exact;
+ghost use mathlib.Core.Path.{_≡_};
+ghost use Prim.Native.Nat.{_≤_, _^_};
+ghost use lib.IntN.{natAbs, _+ℤ_, _-ℤ_};
+ghost use Rattle.coefficients.specs.Formulas.{Small};
+ghost use Rattle.exact.specs.Numerator.{exactOf, numerator, Bounded};
+ghost use Rattle.axis.specs.Formulas.{ticks, still, presentMotion, predictedMotion, correctedMotion, keptSamples, advancedAxis, openedAxis, emptyAxis};
+ghost use Rattle.axis.specs.Ready.{Ready, Placed};
+
+// A sum, and a change given by its numerator.
+fn moved(sum: Exact, change: i64) -> Exact
+    requires { ⌜ Bounded (2 ^ 61) sum ⌝ }
+    ensures { λ r. ⌜ r ≡ exactOf (numerator sum +ℤ change) ⌝ }
+{
+    sum.add(Exact::split(change))
+}
+
+// The last accepted point.
+pub fn present_motion(p: usize, a: Axis) -> Motion
+    requires { ⌜ Ready p a ⌝ }
+    ensures { λ r. ⌜ r ≡ presentMotion p a ⌝ }
+{
+    let samples = a.samples;
+    let before = a.second.subtract(a.first);
+    let position = moved(before, coefficients::position_corrector(p, samples));
+    let velocity = moved(a.first, coefficients::velocity_corrector(p, samples));
+    Motion { position, velocity }
+}
+
+// The next point, predicted.
+pub fn predicted_motion(p: usize, a: Axis) -> Motion
+    requires { ⌜ Ready p a ⌝ }
+    ensures { λ r. ⌜ r ≡ predictedMotion p a ⌝ }
+{
+    let samples = a.samples;
+    let position = moved(a.second, coefficients::position_predictor(p, samples));
+    let velocity = moved(a.first, coefficients::velocity_predictor(p, samples));
+    Motion { position, velocity }
+}
+
+// S1 with one sample more.
+fn next_first(first: Exact, sample: i64) -> Exact
+    requires { ⌜ Bounded (2 ^ 42) first ⌝ }
+    requires { ⌜ natAbs sample ≤ 2 ^ 28 ⌝ }
+    ensures { λ r. ⌜ r ≡ exactOf (numerator first +ℤ ticks sample) ⌝ }
+{
+    moved(first, sample * (Exact::D as i64))
+}
+
+// The next point, corrected with its sample.
+pub fn corrected_motion(p: usize, a: Axis, sample: i64) -> Motion
+    requires { ⌜ Ready p a ⌝ }
+    requires { ⌜ natAbs sample ≤ 2 ^ 28 ⌝ }
+    ensures { λ r. ⌜ r ≡ correctedMotion p a sample ⌝ }
+{
+    let samples = a.samples;
+    let position = moved(
+        a.second,
+        coefficients::next_sum(Formula::PositionCorrector, p, sample, samples),
+    );
+    let first = next_first(a.first, sample);
+    let velocity = moved(
+        first,
+        coefficients::next_sum(Formula::VelocityCorrector, p, sample, samples),
+    );
+    Motion { position, velocity }
+}
+
+// The samples with a new one in front; of the others the first p - 1 stay.
+fn keep_samples(p: usize, sample: i64, samples: [i64; 9]) -> [i64; 9]
+    requires { ⌜ (1 ≤ p) × (p ≤ 9) ⌝ }
+    ensures { λ r. ⌜ r ≡ keptSamples p sample samples ⌝ }
+{
+    let mut out = [0i64; 9];
+    out[0] = sample;
+    let mut i: usize = 1;
+    while i < p {
+        out[i] = samples[i - 1];
+        i += 1;
+    }
+    out
+}
+
+// The sums and the samples at the next point, accepted with its sample.
+pub fn advanced_axis(p: usize, a: Axis, sample: i64) -> Axis
+    requires { ⌜ Ready p a ⌝ }
+    requires { ⌜ natAbs sample ≤ 2 ^ 28 ⌝ }
+    ensures { λ r. ⌜ r ≡ advancedAxis p a sample ⌝ }
+{
+    let old = a.samples;
+    let samples = keep_samples(p, sample, old);
+    let first = next_first(a.first, sample);
+    let second = a.second.add(first);
+    let estimate = no_motion();
+    Axis {
+        first,
+        second,
+        samples,
+        estimate,
+    }
+}
+
+// What a change, given by its numerator, leaves of a value.
+fn left_of(value: Exact, change: i64) -> Exact
+    requires { ⌜ Bounded (2 ^ 52) value ⌝ }
+    ensures { λ r. ⌜ r ≡ exactOf (numerator value -ℤ change) ⌝ }
+{
+    value.subtract(Exact::split(change))
+}
+
+// The sums at which the last accepted point is the one given.
+pub fn opened_axis(p: usize, point: Motion, samples: [i64; 9]) -> Axis
+    requires { ⌜ (1 ≤ p) × (p ≤ 9) ⌝ }
+    requires { ⌜ Placed point ⌝ }
+    requires { ⌜ Small samples ⌝ }
+    ensures { λ r. ⌜ r ≡ openedAxis p point samples ⌝ }
+{
+    let first = left_of(point.velocity, coefficients::velocity_corrector(p, samples));
+    let before = left_of(point.position, coefficients::position_corrector(p, samples));
+    let second = before.add(first);
+    let estimate = no_motion();
+    Axis {
+        first,
+        second,
+        samples,
+        estimate,
+    }
+}
+
+pub fn no_motion() -> Motion
+    ensures { λ r. ⌜ r ≡ still ⌝ }
+{
+    Motion {
+        position: Exact::ZERO,
+        velocity: Exact::ZERO,
+    }
+}
+
+pub fn empty_axis() -> Axis
+    ensures { λ r. ⌜ r ≡ emptyAxis ⌝ }
+{
+    let estimate = no_motion();
+    Axis {
+        first: Exact::ZERO,
+        second: Exact::ZERO,
+        samples: [0i64; 9],
+        estimate,
+    }
+}

@@ -1,0 +1,43 @@
+-- A formula's sum at the next point: the first weight times that point's sample, and the other weights times the samples so far.
+use mathlib.Core.Path.{_≡_, refl, sym, ap, _∙_}
+use mathlib.Core.List.{List, [], _∷_}
+use Prim.Native.Nat.{ℕ, zero, suc, _+_, _≤_, zero-le}
+use native.Mathlib.Nat.{zero-add, suc-add}
+use native.Mathlib.Omega.{arith}
+use lib.IntN.{ℤ, pos, _+ℤ_, _*ℤ_, +ℤ-idl, zero-*ℤ, *ℤ-zero}
+use lib.ListN.{drop}
+use Rattle.integers.specs.Differences.{at, inFront, bySamples, byDifferences, sizes}
+use Rattle.coefficients.specs.Formulas.{row, weightsOf, olderPart}
+use Rattle.coefficients.specs.declared.Formula.{Formula}
+use Rattle.coefficients.proofs.Rows.{row-law}
+
+-- ---- weights of which the first are skipped
+
+pub at-drop : (n : ℕ) (ws : List ℤ) (k : ℕ) → at (drop n ws) k ≡ at ws (n + k)
+at-drop zero ws k = ap (at ws) (sym (zero-add k))
+at-drop (suc n) [] k = refl
+at-drop (suc n) (w ∷ ws) k = at-drop n ws k ∙ ap (at (w ∷ ws)) (sym (suc-add n k))
+
+pub sizes-drop : (n : ℕ) (ws : List ℤ) → sizes (drop n ws) ≤ sizes ws
+unfolding sizes
+sizes-drop zero ws = omega arith
+sizes-drop (suc n) [] = zero-le
+sizes-drop (suc n) (w ∷ ws) = omega (arith, sizes-drop n ws)
+
+-- ---- the sum with a sample in front
+
+by-front : (ws : List ℤ) (a : ℤ) (x : ℕ → ℤ) → bySamples ws (inFront a x) ≡ at ws 0 *ℤ a +ℤ bySamples (drop 1 ws) x
+unfolding bySamples
+by-front [] a x = rw (zero-*ℤ a) refl
+by-front (w ∷ ws) a x = refl
+
+module _ (f : Formula) (p : ℕ) (x : ℕ → ℤ) where
+  pub front-law : (a : ℤ) → at (row (weightsOf f) p) 0 *ℤ a +ℤ bySamples (drop 1 (row (weightsOf f) p)) x ≡ byDifferences (weightsOf f p) (inFront a x)
+  front-law a = sym (by-front (row (weightsOf f) p) a x) ∙ row-law (weightsOf f) p (inFront a x)
+
+  pub older-law : bySamples (drop 1 (row (weightsOf f) p)) x ≡ olderPart f p x
+  unfolding olderPart
+  older-law = sym (rw (*ℤ-zero (at (row (weightsOf f) p) 0)) (+ℤ-idl (bySamples (drop 1 (row (weightsOf f) p)) x))) ∙ front-law (pos 0)
+
+  pub next-law : (a : ℤ) → at (row (weightsOf f) p) 0 *ℤ a +ℤ olderPart f p x ≡ byDifferences (weightsOf f p) (inFront a x)
+  next-law a = ap (λ z. at (row (weightsOf f) p) 0 *ℤ a +ℤ z) (sym older-law) ∙ front-law a

@@ -1,0 +1,11 @@
+-- `session::moves::await_at` meets its contract: the three axes.
+use Rattle.session.specs.Moves.{awaitingAt}
+use Rattle.session.proofs.moves.await_at.Statement.{statement}
+use Rattle.session.proofs.moves.await_at.Tie as tie
+
+returns : tie.Need-returns
+unfolding awaitingAt
+returns c = rw (c .before .before .with-estimate .ensures, c .before .with-estimate2 .ensures, c .with-estimate3 .ensures)
+
+pub await-at-spec : {M : Type 1} → statement M
+await-at-spec = tie.close (tie.spec (λ c κs. tt) (λ c κs. tt) (λ c κs. tt) returns)

@@ -1,0 +1,11 @@
+-- `session::moves::settle` meets its contract: the three axes.
+use Rattle.session.specs.Moves.{settledAgain}
+use Rattle.session.proofs.moves.settle.Statement.{statement}
+use Rattle.session.proofs.moves.settle.Tie as tie
+
+returns : tie.Need-returns
+unfolding settledAgain
+returns c = rw (c .before .before .with-estimate .ensures, c .before .with-estimate2 .ensures, c .with-estimate3 .ensures, c .before .before .before .no-motion .ensures)
+
+pub settle-spec : {M : Type 1} → statement M
+settle-spec = tie.close (tie.spec (λ c κs. tt) (λ c κs. tt) (λ c κs. tt) (λ c κs. tt) returns)

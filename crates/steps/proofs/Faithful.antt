@@ -1,0 +1,100 @@
+-- Every answer that a call gives is faithful.
+use mathlib.Core.Path.{_≡_, refl, sym, subst}
+use mathlib.Core.Bool.{Bool, true, false, cond}
+use mathlib.Core.List.{List}
+use Prim.Native.Nat.{ℕ, zero, suc, _*_, _^_, _≤_, _<_}
+use native.Mathlib.Omega.{arith}
+use lib.Dec.{lit<}
+use lib.Ieee.{Float}
+use lib.IntN.{pos, natAbs}
+use Rattle.exact.specs.declared.Exact.{Exact}
+use Rattle.exact.specs.Numerator.{D, exactOf, Bounded}
+use Rattle.exact.specs.Report.{reportedOf}
+use Rattle.exact.specs.Laws.{part-below}
+use Rattle.exact.specs.Bounds.{widen}
+use Rattle.exact.specs.Casts.{whole-back, part-back, position-reports}
+use Rattle.exact.specs.Ordinary.{report-ordinary}
+use Rattle.ticks.specs.declared.Sample.{Sample}
+use Rattle.ticks.specs.Samples.{wholeOf}
+use Rattle.axis.specs.declared.Motion.{Motion}
+use Rattle.axis.specs.Ready.{Placed}
+use Rattle.session.specs.declared.Point.{Point}
+use Rattle.session.specs.declared.Session.{Session}
+use Rattle.session.specs.Moves.{nowhere, predictedPoint, correctedPoint}
+use Rattle.session.specs.Ready.{PlacedPoint}
+use Rattle.session.proofs.Axes.{still-placed}
+use Rattle.session.proofs.Rules.{waiting}
+use Rattle.session.proofs.Kept.{predicted-point-placed, corrected-point-placed}
+use Rattle.steps.specs.declared.Start.{Start}
+use Rattle.steps.specs.Answers.{Answer, answer, unless, reportedMotion, reportedPoint, reportedChange, noPoint, noChange, openingAnswer, predictionAnswer, correctionAnswer, withdrawalAnswer}
+use Rattle.steps.specs.Faithful.{Faithful, FaithfulMotion, FaithfulPoint, FaithfulAnswer}
+use Rattle.steps.specs.Refusals.{openRefusal, predictRefusal, agrees, largestChange, correctRefusal, withdrawRefusal}
+use Rattle.steps.specs.Steps.{openOf, predictOf, correctOf, withdrawOf}
+use Rattle.steps.proofs.Refusals.{predict-0, correct-0}
+use Rattle.steps.proofs.Answers.{open-answers, predict-answers, correct-answers, withdraw-answers}
+use Rattle.steps.proofs.Changes.{largest-small, size-reports}
+
+-- ---- values
+
+faithful : (e : Exact) → e .part < D → natAbs (e .whole) ≤ 2 ^ 53 → Faithful (reportedOf e)
+faithful e p w = record { report = refl; part = p; whole = w; part-back = part-back e p; whole-back = whole-back (e .whole) w; ordinary = report-ordinary e p w }
+
+bounded : {e : Exact} → Bounded (2 ^ 52) e → Faithful (reportedOf e)
+bounded {e} b = faithful e (b .small) (position-reports e b)
+
+motion : (m : Motion) → Placed m → FaithfulMotion (reportedMotion m)
+unfolding reportedMotion
+motion m p = record { position = bounded (p .position); velocity = bounded (widen (2 ^ 52) (p .velocity) tt) }
+
+point : (q : Point) → PlacedPoint q → FaithfulPoint (reportedPoint q)
+unfolding reportedPoint
+point q p = record { on-x = motion (q .x) (p .on-x); on-y = motion (q .y) (p .on-y); on-z = motion (q .z) (p .on-z) }
+
+no-point : FaithfulPoint noPoint
+unfolding noPoint nowhere
+no-point = point nowhere (record { on-x = still-placed; on-y = still-placed; on-z = still-placed })
+
+change : (n : ℕ) → n < 2 ^ 53 * D → Faithful (reportedChange n)
+unfolding reportedChange
+change n h = faithful (exactOf (pos n)) (part-below (pos n)) (size-reports n h)
+
+no-change : Faithful noChange
+unfolding noChange
+no-change = change 0 (lit< tt)
+
+-- ---- answers
+
+nothing : (n : ℕ) → FaithfulAnswer (answer n 0 noPoint noChange)
+nothing n = record { point = no-point; change = no-change }
+
+pub open-faithful : (p tolerance limit : ℕ) (start : Start) (floats : List Float) → FaithfulAnswer (openingAnswer (openOf p tolerance limit start floats .answer))
+open-faithful p tolerance limit start floats = subst FaithfulAnswer (sym (open-answers p tolerance limit start floats)) (nothing (openRefusal p tolerance limit start floats))
+
+pub withdraw-faithful : (s : Session) → FaithfulAnswer (withdrawalAnswer (withdrawOf s .answer))
+withdraw-faithful s = subst FaithfulAnswer (sym (withdraw-answers s)) (nothing (withdrawRefusal s))
+
+pub predict-faithful : (s : Session) → FaithfulAnswer (predictionAnswer (predictOf s .answer))
+predict-faithful s = subst FaithfulAnswer (sym (predict-answers s)) (go (predictRefusal s) refl)
+  where
+    go : (n : ℕ) → predictRefusal s ≡ n → FaithfulAnswer (answer n 0 (unless n (reportedPoint (predictedPoint s)) noPoint) noChange)
+    go zero e = record { point = point (predictedPoint s) (predicted-point-placed s (predict-0 s .0 e .range)); change = no-change }
+    go (suc n) e = nothing (suc n)
+
+module _ (s : Session) (a : Sample) where
+  abbrev corrected : Point
+  corrected = correctedPoint s (wholeOf a)
+
+  pub correct-faithful : FaithfulAnswer (correctionAnswer (correctOf s a .answer))
+  correct-faithful = subst FaithfulAnswer (sym (correct-answers s a)) (go (correctRefusal s a) refl)
+    where
+      by : (t : Bool) → PlacedPoint corrected → Faithful (reportedChange (largestChange s corrected)) → FaithfulAnswer (answer 0 (cond t 1 2) (reportedPoint corrected) (cond t noChange (reportedChange (largestChange s corrected))))
+      by true p c = record { point = point corrected p; change = no-change }
+      by false p c = record { point = point corrected p; change = c }
+
+      go : (n : ℕ) → correctRefusal s a ≡ n
+          → FaithfulAnswer (answer n (unless n (cond (agrees s corrected) 1 2) 0) (unless n (reportedPoint corrected) noPoint) (unless n (cond (agrees s corrected) noChange (reportedChange (largestChange s corrected))) noChange))
+      go zero e =
+          let r = correct-0 s a .0 e in
+          let p = corrected-point-placed s (wholeOf a) (r .range) in
+          by (agrees s corrected) p (change (largestChange s corrected) (largest-small s corrected (waiting s (r .standing)) p))
+      go (suc n) e = record { point = no-point; change = no-change }

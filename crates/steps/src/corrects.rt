@@ -1,0 +1,123 @@
+// Correct: the corrected point, which is accepted, awaits another correction, or is the last that the limit allows.
+use crate::AfterCorrect;
+use crate::Correction;
+use crate::checks::fault_number;
+use crate::checks::point_in_range;
+use crate::reports::report_point;
+use axis::agrees_on;
+use axis::change;
+use exact::Exact;
+use session::Point;
+use session::Session;
+use session::accept;
+use session::await_at;
+use session::corrected_point;
+use session::is_awaiting;
+use session::settle;
+use ticks::Sample;
+use ticks::WholeSample;
+ghost use mathlib.Core.Path.{_≡_};
+ghost use mathlib.Core.Bool.{true, not, cond, _&&_};
+ghost use lib.IntN.{pos};
+ghost use Rattle.integers.specs.Tests.{firstOf};
+ghost use Rattle.exact.specs.Numerator.{exactOf};
+ghost use Rattle.ticks.specs.Samples.{WithinLimit};
+ghost use Rattle.session.specs.Holding.{awaiting};
+ghost use Rattle.session.specs.Moves.{correctedPoint, pointInRange};
+ghost use Rattle.session.specs.Ready.{Waiting, PlacedPoint};
+ghost use Rattle.steps.specs.Refusals.{agrees, largestChange, isLast, pointRules};
+ghost use Rattle.steps.specs.Steps.{correctBy, correctOf};
+
+fn is_agreed(s: Session, q: Point) -> bool
+    requires { ⌜ Waiting s ⌝ }
+    requires { ⌜ PlacedPoint q ⌝ }
+    ensures { λ r. ⌜ r ≡ agrees s q ⌝ }
+{
+    if !agrees_on(s.tolerance, q.x, s.x.estimate) {
+        return false;
+    }
+    if !agrees_on(s.tolerance, q.y, s.y.estimate) {
+        return false;
+    }
+    agrees_on(s.tolerance, q.z, s.z.estimate)
+}
+
+fn largest_change(s: Session, q: Point) -> Exact
+    requires { ⌜ Waiting s ⌝ }
+    requires { ⌜ PlacedPoint q ⌝ }
+    ensures { λ r. ⌜ r ≡ exactOf (pos (largestChange s q)) ⌝ }
+{
+    let x = change(q.x, s.x.estimate);
+    let y = change(q.y, s.y.estimate);
+    let z = change(q.z, s.z.estimate);
+    x.larger(y.larger(z))
+}
+
+fn refuse_correct(s: Session, number: u8) -> AfterCorrect
+    ensures { λ r. ⌜ r ≡ record { session = s; answer = Correction.Refused number } ⌝ }
+{
+    AfterCorrect {
+        session: s,
+        answer: Correction::Refused(number),
+    }
+}
+
+// The point is in range: it is accepted, or the last correction was made, or another is awaited.
+fn judge(s: Session, w: WholeSample, q: Point) -> AfterCorrect
+    requires { ⌜ Waiting s ⌝ }
+    requires { ⌜ WithinLimit w ⌝ }
+    requires { ⌜ q ≡ correctedPoint s w ⌝ }
+    requires { ⌜ pointInRange q ≡ true ⌝ }
+    ensures { λ r. ⌜ r ≡ correctBy (cond (not (agrees s q) && isLast s) 8 0) s w ⌝ }
+{
+    let point = report_point(q);
+    if is_agreed(s, q) {
+        let session = accept(s, w);
+        return AfterCorrect {
+            session,
+            answer: Correction::Accepted(point),
+        };
+    }
+    let made = s.corrections + 1;
+    if s.limit <= made {
+        let session = settle(s);
+        return AfterCorrect {
+            session,
+            answer: Correction::Refused(8),
+        };
+    }
+    let change = largest_change(s, q).reported();
+    let session = await_at(s, made, q);
+    AfterCorrect {
+        session,
+        answer: Correction::Again(point, change),
+    }
+}
+
+// An awaiting session and a sample without fault.
+fn correct_with(s: Session, w: WholeSample) -> AfterCorrect
+    requires { ⌜ awaiting s ≡ true ⌝ }
+    requires { ⌜ WithinLimit w ⌝ }
+    ensures { λ r. ⌜ r ≡ correctBy (firstOf (pointRules s (correctedPoint s w))) s w ⌝ }
+{
+    let q = corrected_point(s, w);
+    if !point_in_range(q) {
+        return refuse_correct(s, 6);
+    }
+    judge(s, w, q)
+}
+
+pub fn correct_step(s: Session, a: Sample) -> AfterCorrect
+    ensures { λ r. ⌜ r ≡ correctOf s a ⌝ }
+{
+    if !is_awaiting(s) {
+        return refuse_correct(s, 7);
+    }
+    let rounded = ticks::round_sample(a);
+    let number = fault_number(rounded.fault);
+    if number != 0 {
+        return refuse_correct(s, number);
+    }
+    let w = rounded.ticks;
+    correct_with(s, w)
+}

@@ -1,0 +1,24 @@
+// Withdraw: the session is settled again, as before the prediction.
+use crate::AfterWithdraw;
+use crate::Withdrawal;
+use session::Session;
+use session::is_awaiting;
+use session::settle;
+ghost use mathlib.Core.Path.{_≡_};
+ghost use Rattle.steps.specs.Steps.{withdrawOf};
+
+pub fn withdraw_step(s: Session) -> AfterWithdraw
+    ensures { λ r. ⌜ r ≡ withdrawOf s ⌝ }
+{
+    if !is_awaiting(s) {
+        return AfterWithdraw {
+            session: s,
+            answer: Withdrawal::Refused(7),
+        };
+    }
+    let session = settle(s);
+    AfterWithdraw {
+        session,
+        answer: Withdrawal::Withdrawn,
+    }
+}
