@@ -1,0 +1,3 @@
+-- The demands, shown. `Theorems` collects what is shown.
+pub mod Parts
+pub mod Tables
