@@ -2,3 +2,6 @@
 pub mod Sums
 pub mod Places
 pub mod Sound
+pub mod Points
+pub mod Kept
+pub mod Agreement

@@ -1,12 +1,12 @@
 -- The nine places of an axis: filled, looked at, and small where they hold.
-use mathlib.Core.Path.{_≡_, refl, sym, ap, ap₂, _∙_}
+use mathlib.Core.Path.{_≡_, refl, ap, _∙_}
 use mathlib.Core.Bool.{Bool, true, false}
 use mathlib.Core.List.{List, [], _∷_, _++_}
-use Prim.Native.Nat.{ℕ, zero, suc, _-_, _^_, _≤_, _<_, zero-le}
+use Prim.Native.Nat.{ℕ, zero, suc, _-_, _^_, _≤_, _<_}
 use native.Mathlib.Nat.{not-suc-le-zero}
 use native.Mathlib.Omega.{arith}
 use borrow.Author.Tests.{lt-ltb, le-ltb, leb-true, le-leb, ltb-false}
-use lib.Dec.{ltb, leb}
+use lib.Dec.{ltb}
 use lib.IntN.{ℤ, pos, natAbs}
 use lib.ListN.{length, take, drop, set, replicate}
 use lib.Seq.{drop-cons}
@@ -66,10 +66,6 @@ module _ (x : ℤ) (xs : List ℤ) where
   small-parts : samplesSmall (x ∷ xs) ≡ true → (natAbs x ≤ 2 ^ 28) × (samplesSmall xs ≡ true)
   unfolding samplesSmall
   small-parts t = let (a, b) = simp joined at t in (leb-true (natAbs x) (2 ^ 28) a, b)
-
-  small-from : natAbs x ≤ 2 ^ 28 → samplesSmall xs ≡ true → samplesSmall (x ∷ xs) ≡ true
-  unfolding samplesSmall
-  small-from h t = simp joined (le-leb (natAbs x) (2 ^ 28) h, t)
 
 zero-small : (x : ℤ) → eqℤ x (pos 0) ≡ true → natAbs x ≤ 2 ^ 28
 zero-small x e = rw (eqℤ-true x (pos 0) e) (omega arith)

@@ -1,33 +1,44 @@
--- How large the sums of an axis are, and what the code makes of its calls' results.
+-- What the code makes of its calls' results, and how large it is. An i64 is passed on by its bits.
 use mathlib.Core.Path.{_≡_, ap, _∙_}
-use Prim.Native.Nat.{ℕ, _+_, _^_}
+use Prim.Native.Nat.{ℕ, _+_, _^_, _≤_}
 use native.Mathlib.Omega.{arith}
-use lib.IntN.{ℤ, pos, _-ℤ_, _*ℤ_}
+use lib.IntN.{ℤ, pos, natAbs, _+ℤ_, _-ℤ_}
 use mir.Syntax.{w64}
 use mir.Val.{SFits, toZ, ofZ}
 use mir.Facts.{toZ-ofZ}
-use Rattle.integers.specs.Parts.{Sized, sfits-within, difference-parts}
+use Rattle.integers.specs.Parts.{sfits-within, difference-parts}
 use Rattle.integers.specs.Size.{product-sized, sized-fits}
 use Rattle.exact.specs.declared.Exact.{Exact}
 use Rattle.exact.specs.Numerator.{D, exactOf, numerator, Bounded}
-use Rattle.exact.specs.Bounds.{numerator-within, within-bounded}
+use Rattle.exact.specs.Bounds.{numerator-within, within-bounded, moved-bounded}
 use Rattle.axis.specs.Formulas.{motionOf, ticks}
 
--- ---- a sample in ticks
+-- ---- a value moved by a call's result
 
-pub ticks-fit : (n : ℤ) → Sized (2 ^ 28) n → SFits w64 (ticks n)
-ticks-fit n s = sized-fits (product-sized {n = D} s (record { size = omega arith })) tt
+module _ (e : Exact) (z : ℤ) {w : ℤ} {r : Exact} (f : SFits w64 z) (g : z ≡ w) where
+  pub moved-is : r ≡ exactOf (numerator e +ℤ toZ w64 (ofZ w64 z)) → r ≡ exactOf (numerator e +ℤ w)
+  moved-is p = p ∙ ap (λ y. exactOf (numerator e +ℤ y)) (toZ-ofZ f ∙ g)
 
--- ---- what a weighted sum leaves of a value
+  pub left-is : r ≡ exactOf (numerator e -ℤ toZ w64 (ofZ w64 z)) → r ≡ exactOf (numerator e -ℤ w)
+  left-is p = p ∙ ap (λ y. exactOf (numerator e -ℤ y)) (toZ-ofZ f ∙ g)
 
-pub left-bounded : (h : ℕ) {e : Exact} (z : ℤ) → Bounded h e → SFits w64 z → Bounded (h + 2 ^ 36) (exactOf (numerator e -ℤ z))
-left-bounded h {e} z b f = within-bounded (h + 2 ^ 36) (numerator e -ℤ z) (omega (arith, numerator-within b, sfits-within f, difference-parts (numerator e) z))
+pub left-bounded : (h : ℕ) (e : Exact) (z : ℤ) {r : Exact} → SFits w64 z → r ≡ exactOf (numerator e -ℤ toZ w64 (ofZ w64 z)) → Bounded h e → Bounded (h + 2 ^ 36) r
+left-bounded h e z f p b =
+    rw (p, toZ-ofZ f) (within-bounded (h + 2 ^ 36) (numerator e -ℤ z) (omega (arith, numerator-within b, sfits-within f, difference-parts (numerator e) z)))
 
--- ---- results of calls
+-- ---- a sample in ticks, and a first sum moved by it
 
--- an i64 is passed on by its bits
-pub through : (make : ℤ → Exact) {r : Exact} (z : ℤ) {w : ℤ} → r ≡ make (toZ w64 (ofZ w64 z)) → SFits w64 z → z ≡ w → r ≡ make w
-through make z e f g = e ∙ ap make (toZ-ofZ f ∙ g)
+pub ticks-fit : (n : ℤ) → natAbs n ≤ 2 ^ 28 → SFits w64 (ticks n)
+ticks-fit n s = sized-fits (product-sized {m = 2 ^ 28} {n = D} {a = n} {b = pos D} (record { size = s }) (record { size = omega arith })) tt
+
+module _ (e : Exact) (n : ℤ) {r : Exact} (f : SFits w64 n) (p : r ≡ exactOf (numerator e +ℤ ticks (toZ w64 (ofZ w64 n)))) where
+  pub next-is : r ≡ exactOf (numerator e +ℤ ticks n)
+  next-is = p ∙ ap (λ y. exactOf (numerator e +ℤ ticks y)) (toZ-ofZ f)
+
+  pub next-bounded : (h : ℕ) → Bounded h e → natAbs n ≤ 2 ^ 28 → Bounded (h + 2 ^ 36) r
+  next-bounded h b s = rw next-is (moved-bounded h (ticks n) b (ticks-fit n s))
+
+-- ---- a motion of two values that were made
 
 pub motion-is : {p v : Exact} (m n : ℤ) → p ≡ exactOf m → v ≡ exactOf n → record { position = p; velocity = v } ≡ motionOf m n
 unfolding motionOf

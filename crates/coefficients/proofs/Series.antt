@@ -1,6 +1,6 @@
 -- A formula's sum over D is the series of the rules' coefficients, in fractions: for every sequence of coefficients that D makes whole, and so for each formula and each p.
 use mathlib.Core.Path.{_≡_, refl, sym, _∙_, ap}
-use Prim.Native.Nat.{ℕ, zero, suc, pred, _+_, _*_, _≤_}
+use Prim.Native.Nat.{ℕ, zero, suc, _+_, _*_, _≤_}
 use native.Mathlib.Nat.{le-of-suc-le-suc, not-suc-le-zero, mul-one}
 use native.Mathlib.Omega.{arith}
 use mathlib.Core.List.{_∷_}

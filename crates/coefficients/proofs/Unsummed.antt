@@ -1,9 +1,9 @@
 -- The unsummed formulas begin with D l(0) = D, D l(1) = -D and D c(0) = D, and go on as the correctors do.
 use mathlib.Core.Path.{_≡_, refl, _∙_, ap}
-use mathlib.Core.List.{List, _∷_}
-use Prim.Native.Nat.{ℕ, suc, _+_}
+use mathlib.Core.List.{_∷_}
+use Prim.Native.Nat.{ℕ}
 use native.Mathlib.Numerals.{add-one, add-two}
-use lib.IntN.{ℤ, pos, negℤ}
+use lib.IntN.{pos, negℤ}
 use lib.ListN.{take}
 use Rattle.exact.specs.Numerator.{D}
 use Rattle.coefficients.specs.Fraction.{times}

@@ -8,17 +8,17 @@ use lib.ListN.{take, replicate}
 use Rattle.integers.specs.Differences.{ordinates}
 use Rattle.coefficients.specs.Fraction.{times}
 use Rattle.coefficients.specs.Rules.{c, g, l, s, total, terms, next, divided}
-use Rattle.coefficients.specs.Scaled.{allWhole, run, later, c-whole, g-whole, l-whole, s-whole}
+use Rattle.coefficients.specs.Scaled.{allWhole, run, c-from-1, g-from-1, l-from-2, s-from-2}
 use Rattle.coefficients.specs.Formulas.{weightsOf, coefficientOf, firstIndex, row, positionPredictor, positionCorrector, velocityPredictor, velocityCorrector}
 use Rattle.coefficients.specs.declared.Formula.{Formula}
 use Rattle.coefficients.specs.declared.Formula.the-variants.{PositionPredictor, PositionCorrector, VelocityPredictor, VelocityCorrector}
 
 -- a formula's coefficients are whole times D
 pub wholeOf : (f : Formula) → allWhole (coefficientOf f) (firstIndex f) 9 ≡ true
-wholeOf PositionPredictor = later s 1 9 (later s 0 10 s-whole)
-wholeOf PositionCorrector = later l 1 9 (later l 0 10 l-whole)
-wholeOf VelocityPredictor = later g 0 9 g-whole
-wholeOf VelocityCorrector = later c 0 9 c-whole
+wholeOf PositionPredictor = s-from-2
+wholeOf PositionCorrector = l-from-2
+wholeOf VelocityPredictor = g-from-1
+wholeOf VelocityCorrector = c-from-1
 
 -- the weights for p points are the first p of nine
 pub weights-run : (f : Formula) (p : ℕ) → weightsOf f p ≡ take p (run (coefficientOf f) (firstIndex f) 9 (wholeOf f))

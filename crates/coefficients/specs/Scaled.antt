@@ -27,7 +27,7 @@ unfoldable pub run : (f : ℕ → Fraction) (i n : ℕ) → allWhole f i n ≡ t
 run f i zero w = []
 run f i (suc n) w = times D (f i) (first f i n w) ∷ run f (suc i) n (later f i n w)
 
--- ---- the coefficients that are used: c and g to 9, l and s to 10 (D c(10) is not whole)
+-- ---- the coefficients that are used are whole times D: c and g to 9, l and s to 10 (D c(10) is not whole)
 
 pub c-whole : allWhole c 0 10 ≡ true
 unfolding c terms next divided
@@ -44,3 +44,16 @@ l-whole = refl
 pub s-whole : allWhole s 0 11 ≡ true
 unfolding s l total c terms next divided
 s-whole = refl
+
+-- from the index on at which the formulas begin
+abbrev pub c-from-1 : allWhole c 1 9 ≡ true
+c-from-1 = later c 0 9 c-whole
+
+abbrev pub g-from-1 : allWhole g 1 9 ≡ true
+g-from-1 = later g 0 9 g-whole
+
+abbrev pub l-from-2 : allWhole l 2 9 ≡ true
+l-from-2 = later l 1 9 (later l 0 10 l-whole)
+
+abbrev pub s-from-2 : allWhole s 2 9 ≡ true
+s-from-2 = later s 1 9 (later s 0 10 s-whole)

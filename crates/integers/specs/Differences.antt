@@ -4,7 +4,7 @@ use mathlib.Core.List.{List, [], _∷_, _++_}
 use Prim.Native.Nat.{ℕ, zero, suc, _+_, _*_, _≤_, _<_, zero-le}
 use native.Mathlib.Nat.{mul-le-mul-left, add-mul}
 use native.Mathlib.Omega.{arith}
-use lib.IntN.{ℤ, pos, negℤ, natAbs, _+ℤ_, _-ℤ_, _*ℤ_, +ℤ-assoc, +ℤ-comm, +ℤ-idl, +ℤ-idr, zero-*ℤ}
+use lib.IntN.{ℤ, pos, negℤ, natAbs, _+ℤ_, _-ℤ_, _*ℤ_, +ℤ-assoc, +ℤ-comm, +ℤ-idl, zero-*ℤ}
 use lib.ListN.{length, take, getD, replicate}
 use Rattle.integers.specs.Size.{natAbs-+ℤ, natAbs-*ℤ}
 use Rattle.integers.specs.Solver.{atom, terms, ring}
@@ -76,7 +76,7 @@ past-taken (suc p) n (x ∷ xs) (suc k) h = past-taken p n xs k (omega arith)
 spread-law : (a : ℤ) (ws : List ℤ) (x : ℕ → ℤ) → bySamples (spread a ws) x ≡ a *ℤ x 0 +ℤ bySamples ws (back x)
 unfolding bySamples spread
 spread-law a [] x = refl
-spread-law a (w ∷ ws) x = rw (spread-law (negℤ w) ws (older x)) (regroup a w (x 0) (x 1) (bySamples ws (back (older x))))
+spread-law a (w ∷ ws) x = ap (λ r. (a +ℤ w) *ℤ x 0 +ℤ r) (spread-law _ ws (older x)) ∙ regroup a w (x 0) (x 1) (bySamples ws (back (older x)))
   where
     regroup : (a w x y r : ℤ) → (a +ℤ w) *ℤ x +ℤ (negℤ w *ℤ y +ℤ r) ≡ a *ℤ x +ℤ (w *ℤ (x -ℤ y) +ℤ r)
     regroup a w x y r = rw (atom 0 a, atom 1 w, atom 2 x, atom 3 y, atom 4 r) (simp terms (ring _ _ refl))

@@ -1,6 +1,6 @@
 -- `axis::estimates::agrees_on` meets its contract: the change is compared with the tolerance.
 use mathlib.Core.Path.{_≡_, refl, ap, _∙_}
-use Prim.Native.Nat.{ℕ, _*_}
+use Prim.Native.Nat.{ℕ, _*_, _<_}
 use native.Mathlib.Omega.{arith}
 use borrow.Author.Needs.{needs}
 use lib.Dec.{leb, lit<}
@@ -19,7 +19,11 @@ compared : (n t : ℕ) {e f : Exact} → e ≡ exactOf (pos n) → f ≡ wholly 
 compared n t p q = rw (p, q, numerator-exactOf (pos n), numerator-wholly (pos t)) refl
 
 at-most-requires : tie.Need-at-most-requires
-at-most-requires c κs = (rw (c .change .ensures) (part-below (pos (changeOf (c .before .before .args .m) (c .before .before .args .estimate)))), rw (c .before .of-whole .ensures) (lit< tt))
+at-most-requires c κs =
+    let d = c .before in
+    let change : c .change .result .part < D = rw (c .change .ensures) (part-below (pos (changeOf (d .before .args .m) (d .before .args .estimate)))) in
+    let most : d .of-whole .result .part < D = rw (d .of-whole .ensures) (lit< tt) in
+    search needs
 
 returns : tie.Need-returns
 unfolding agreesOn

@@ -1,35 +1,30 @@
 -- `axis::formulas::advanced_axis` meets its contract: the sums and the samples, one point on.
-use mathlib.Core.Path.{_≡_, _∙_, ap}
+use mathlib.Core.Path.{_∙_, ap}
 use Prim.Native.Nat.{_^_}
 use borrow.Author.Needs.{needs}
 use lib.IntN.{_+ℤ_}
 use mir.Facts.{toZ-ofZ}
 use Rattle.exact.specs.Numerator.{exactOf, numerator}
 use Rattle.exact.specs.Laws.{made}
-use Rattle.exact.specs.Bounds.{widen, moved-bounded}
-use Rattle.axis.specs.Formulas.{advancedAxis, keptSamples, ticks}
-use Rattle.axis.proofs.Sums.{ticks-fit}
+use Rattle.exact.specs.Bounds.{widen}
+use Rattle.axis.specs.Formulas.{advancedAxis, keptSamples}
+use Rattle.axis.proofs.Sums.{next-is, next-bounded}
 use Rattle.axis.proofs.formulas.advanced_axis.Statement.{statement}
 use Rattle.axis.proofs.formulas.advanced_axis.Tie as tie
 
 add-requires : tie.Need-add-requires
 add-requires c κs =
     let b = c .before .before .before in
-    let a = b .args .a in
-    let n = b .args .sample in
-    let f : c .next-first .result ≡ exactOf (numerator (a .first) +ℤ ticks n) = c .next-first .ensures ∙ ap (λ z. exactOf (numerator (a .first) +ℤ ticks z)) (toZ-ofZ (b .fits .sample)) in
-    (widen (2 ^ 62) (b .pre .0 .second) tt, rw f (widen (2 ^ 62) (moved-bounded (2 ^ 42) (ticks n) (b .pre .0 .first) (ticks-fit n (record { size = b .pre .1 }))) tt))
+    (widen (2 ^ 62) (b .pre .0 .second) tt, widen (2 ^ 62) (next-bounded (b .args .a .first) (b .args .sample) (b .fits .sample) (c .next-first .ensures) (2 ^ 42) (b .pre .0 .first) (b .pre .1)) tt)
 
 returns : tie.Need-returns
 unfolding advancedAxis
 returns c =
     let d = c .before .before in
     let b = d .before .before .before in
-    let p = b .args .p in
     let a = b .args .a in
-    let n = b .args .sample in
-    let e : d .before .keep-samples .result ≡ keptSamples p n (a .samples) = d .before .keep-samples .ensures ∙ ap (λ z. keptSamples p z (a .samples)) (toZ-ofZ (b .fits .sample)) in
-    let f : d .next-first .result ≡ exactOf (numerator (a .first) +ℤ ticks n) = d .next-first .ensures ∙ ap (λ z. exactOf (numerator (a .first) +ℤ ticks z)) (toZ-ofZ (b .fits .sample)) in
+    let e = d .before .keep-samples .ensures ∙ ap (λ z. keptSamples (b .args .p) z (a .samples)) (toZ-ofZ (b .fits .sample)) in
+    let f = next-is (a .first) (b .args .sample) (b .fits .sample) (d .next-first .ensures) in
     let g = c .before .add .ensures ∙ ap (λ z. exactOf (numerator (a .second) +ℤ z)) (made _ f) in
     λ i. record { first = f i; second = g i; samples = e i; estimate = c .no-motion .ensures i }
 

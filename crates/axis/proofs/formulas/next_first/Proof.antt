@@ -11,7 +11,7 @@ use Rattle.axis.proofs.formulas.next_first.Statement.{statement}
 use Rattle.axis.proofs.formulas.next_first.Tie as tie
 
 mul-moved : tie.Need-mul-moved
-mul-moved c = rw (toZ-ofZ (c .fits .sample)) (ticks-fit (c .args .sample) (record { size = c .pre .1 }))
+mul-moved c = rw (toZ-ofZ (c .fits .sample)) (ticks-fit (c .args .sample) (c .pre .1))
 
 moved-requires : tie.Need-moved-requires
 moved-requires c κs = widen (2 ^ 61) (c .pre .0) tt
@@ -20,7 +20,7 @@ returns : tie.Need-returns
 returns c =
     let b = c .before in
     c .moved .ensures
-    ∙ ap (λ z. exactOf (numerator (b .args .first) +ℤ z)) (simp (toZ-ofZ (b .fits .sample)) (toZ-ofZ (ticks-fit (b .args .sample) (record { size = b .pre .1 }))))
+    ∙ ap (λ z. exactOf (numerator (b .args .first) +ℤ z)) (simp (toZ-ofZ (b .fits .sample)) (toZ-ofZ (ticks-fit (b .args .sample) (b .pre .1))))
 
 pub next-first-spec : {M : Type 1} → statement M
 next-first-spec = tie.close (tie.spec (λ c. search needs) mul-moved moved-requires returns)

@@ -1,13 +1,11 @@
 -- `axis::holding::axis_holds` meets its contract: a sum outside the early bounds has no present point in range.
-use mathlib.Core.Path.{_≡_, sym, ap, _∙_}
-use mathlib.Core.Bool.{false}
-use Prim.Native.Nat.{_^_}
+use mathlib.Core.Path.{sym, ap, _∙_}
 use Rattle.integers.specs.Tests.{stop, go-on, fails, failed, passed, clash}
 use Rattle.exact.specs.Bounds.{between-bounded}
 use Rattle.axis.specs.Estimates.{inRange}
 use Rattle.axis.specs.Holding.{axisHolds}
 use Rattle.axis.proofs.Places.{small-samples}
-use Rattle.axis.proofs.Sound.{remainders, first-within, second-within}
+use Rattle.axis.proofs.Sound.{holding-axis, remainders, first-within, second-within}
 use Rattle.axis.proofs.holding.axis_holds.Statement.{statement}
 use Rattle.axis.proofs.holding.axis_holds.Tie as tie
 
@@ -24,12 +22,14 @@ returns-2 c =
 returns-3 : tie.Need-returns-3
 returns-3 c =
     let b = c .before .before .before .before .before .before .before in
-    sym (fails (axisHolds (b .args .p) (b .args .a)) (λ t. clash (first-within (b .args .p) (b .args .a) (b .pre) t) (failed (c .before .first-fits .ensures) (c .if3 .taken))))
+    sym (fails (axisHolds (b .args .p) (b .args .a)) (λ t. let h = holding-axis (b .args .p) (b .args .a) t in
+    clash (first-within (b .args .p) (b .args .a) (b .pre) (h .remainders .first) (h .remainders .second) (h .small) (h .present-range)) (failed (c .before .first-fits .ensures) (c .if3 .taken))))
 
 returns-4 : tie.Need-returns-4
 returns-4 c =
     let b = c .before .before .before .before .before .before .before .before .before in
-    sym (fails (axisHolds (b .args .p) (b .args .a)) (λ t. clash (second-within (b .args .p) (b .args .a) (b .pre) t) (failed (c .before .second-fits .ensures) (c .if4 .taken))))
+    sym (fails (axisHolds (b .args .p) (b .args .a)) (λ t. let h = holding-axis (b .args .p) (b .args .a) t in
+    clash (second-within (b .args .p) (b .args .a) (b .pre) (h .remainders .first) (h .remainders .second) (h .small) (h .present-range)) (failed (c .before .second-fits .ensures) (c .if4 .taken))))
 
 present-motion-requires : tie.Need-present-motion-requires
 present-motion-requires c κs =
