@@ -1,3 +1,4 @@
 -- The demands, shown. `Theorems` collects what is shown.
 pub mod Parts
 pub mod Tables
+pub mod Standing
