@@ -2,3 +2,5 @@
 pub mod Parts
 pub mod Tables
 pub mod Standing
+pub mod Invariant
+pub mod Cowell
