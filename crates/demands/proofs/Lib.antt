@@ -4,3 +4,5 @@ pub mod Tables
 pub mod Standing
 pub mod Invariant
 pub mod Cowell
+pub mod Alike
+pub mod Opens
