@@ -6,3 +6,5 @@ pub mod Invariant
 pub mod Cowell
 pub mod Alike
 pub mod Opens
+pub mod Ours
+pub mod Unique
