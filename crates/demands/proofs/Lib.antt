@@ -8,3 +8,4 @@ pub mod Alike
 pub mod Opens
 pub mod Ours
 pub mod Unique
+pub mod Openings
