@@ -9,3 +9,4 @@ pub mod Opens
 pub mod Ours
 pub mod Unique
 pub mod Openings
+pub mod Examples
