@@ -10,3 +10,4 @@ pub mod Ours
 pub mod Unique
 pub mod Openings
 pub mod Examples
+pub mod TurnedDown

@@ -82,16 +82,21 @@ pub record AnyCalls : Type 0 where
 -- ---- the bad versions, each turned down by the demand that is named for it
 
 pub record TurnedDown : Type 0 where
+  -- refuses everything: demand 1's exact conditions, and demand 2
   pub refusing1 : ¬ Demand1 refusing
   pub refusing2 : ¬ Demand2 refusing
+  -- always predicts zero: demand 2, also over histories
   pub predictingZero2 : ¬ Demand2 predictingZero
+  pub predictingZeroFormulas : ¬ Formulas predictingZero
+  -- never moves the session: demand 2
   pub unmoving2 : ¬ Demand2 unmoving
+  -- steps truly once and then repeats: demand 2, demand 3, and demand 3 read over demand 2's formulas
   pub repeating2 : ¬ Demand2 repeating
-  -- demand 3, and demand 3 read over demand 2's formulas
   pub repeating3 : ¬ Demand3 repeating
   pub repeatingFormulas : ¬ Formulas repeating
+  -- reports points or corrections that it made up: the counts
   pub inventingPoints : ¬ Counts inventingPoints
   pub inventingCorrections : ¬ Counts inventingCorrections
-  -- each of them could be met: what refuses everything meets demand 3, what predicts zero meets demand 1
+  -- and each fails what it is said to fail: what refuses everything meets demand 3, what predicts zero meets demand 1
   pub refusing3 : Demand3 refusing
   pub predictingZero1 : Demand1 predictingZero
