@@ -11,3 +11,4 @@ pub mod Unique
 pub mod Openings
 pub mod Examples
 pub mod TurnedDown
+pub mod Theorems
