@@ -21,7 +21,9 @@ use Rattle.session.specs.Numbers.{pointsHold, settingsHold, mostPoints}
 use Rattle.session.specs.Moves.{nowhere, estimateOf, predictedPoint, correctedPoint, pointInRange, settledAgain, awaitingAt, acceptedAt, openedSession, closedSession}
 use Rattle.session.specs.Holding.{countsHold, holds, settled, awaiting}
 use Rattle.session.specs.Ready.{PlacedPoint}
-use Rattle.session.proofs.Axes.{predicted-placed, corrected-placed, still-placed, estimating-holds, advanced-holds, opened-holds}
+use Rattle.axis.proofs.Places.{places-hold}
+use Rattle.axis.proofs.Sound.{predicted-placed, corrected-placed}
+use Rattle.axis.proofs.Kept.{still-placed, estimating-holds, advanced-holds, opened-holds}
 use Rattle.session.proofs.Rules.{points-hold, settings-hold, axes-in-range, KeepsRules, holding, counts-are, counts-hold, settled-holds, resting, settled-by, awaiting-holds, expecting, awaiting-by}
 use Rattle.session.proofs.Present.{predicted-awaiting, estimate-awaiting}
 
@@ -113,9 +115,9 @@ accepted-holds s w t l r =
     settled-by (acceptedAt s w)
     (record {
       counts = counts-hold (acceptedAt s w) (record { points = c .points; tolerance = c .tolerance; limit = c .limit; accepted = omega (arith, expecting s t .accepted) });
-      on-x = advanced-holds (s .points) (s .x) (w .x) (h .on-x) (l .on-x) x;
-      on-y = advanced-holds (s .points) (s .y) (w .y) (h .on-y) (l .on-y) y;
-      on-z = advanced-holds (s .points) (s .z) (w .z) (h .on-z) (l .on-z) z;
+      on-x = advanced-holds (s .points) (c .points .1) (s .x) (w .x) (h .on-x) (l .on-x) x;
+      on-y = advanced-holds (s .points) (c .points .1) (s .y) (w .y) (h .on-y) (l .on-y) y;
+      on-z = advanced-holds (s .points) (c .points .1) (s .z) (w .z) (h .on-z) (l .on-z) z;
     })
     (record { state = refl; estimate = refl; corrections = refl })
 
@@ -130,9 +132,9 @@ opened-session-holds p tolerance limit q xs ys zs a b r sx sy sz =
     settled-by s
     (record {
       counts = counts-hold s (record { points = points-hold p .0 a; tolerance = t; limit = l; accepted = omega arith });
-      on-x = opened-holds p (q .x) xs (r .on-x) sx;
-      on-y = opened-holds p (q .y) ys (r .on-y) sy;
-      on-z = opened-holds p (q .z) zs (r .on-z) sz;
+      on-x = opened-holds p (q .x) (places p xs) (r .on-x) (places-hold p xs sx);
+      on-y = opened-holds p (q .y) (places p ys) (r .on-y) (places-hold p ys sy);
+      on-z = opened-holds p (q .z) (places p zs) (r .on-z) (places-hold p zs sz);
     })
     (record { state = refl; estimate = refl; corrections = refl })
 

@@ -17,7 +17,8 @@ use Rattle.session.specs.Numbers.{pointsHold, settingsHold, mostPoints}
 use Rattle.session.specs.Moves.{nowhere, presentPoint, estimateOf, predictedPoint, pointInRange}
 use Rattle.session.specs.Holding.{countsHold, samePoint, settledHolds, estimateBegins, awaitingHolds, stateHolds, holds, isSettled, isAwaiting, settled, awaiting}
 use Rattle.session.specs.Ready.{ReadySession, Waiting}
-use Rattle.session.proofs.Axes.{holding-axis, axis-holds, axis-ready, estimate-placed, same-motion-true, same-motion-refl}
+use Rattle.axis.proofs.Sound.{holds-by-rules, axis-ready, estimate-placed}
+use Rattle.axis.proofs.Agreement.{same-motion, motions-same}
 
 -- ---- numbers
 
@@ -45,11 +46,11 @@ pub same-point-true : (q r : Point) → samePoint q r ≡ true → q ≡ r
 unfolding samePoint
 same-point-true q r h =
     let (x, (y, z)) = simp joined at h in
-    λ i. record { x = same-motion-true (q .x) (r .x) x i; y = same-motion-true (q .y) (r .y) y i; z = same-motion-true (q .z) (r .z) z i }
+    λ i. record { x = motions-same (q .x) (r .x) x i; y = motions-same (q .y) (r .y) y i; z = motions-same (q .z) (r .z) z i }
 
 pub same-point : (q r : Point) → q ≡ r → samePoint q r ≡ true
 unfolding samePoint
-same-point q r e = ap (λ p. samePoint p r) e ∙ simp joined (same-motion-refl (r .x), (same-motion-refl (r .y), same-motion-refl (r .z)))
+same-point q r e = ap (λ p. samePoint p r) e ∙ simp joined (same-motion (r .x), (same-motion (r .y), same-motion (r .z)))
 
 -- ---- every rule that a record that holds keeps
 
@@ -68,33 +69,30 @@ pub holding : (s : Session) → holds s ≡ true → Holding s
 unfolding holds pointInRange presentPoint estimateOf
 holding s h =
     let (c, ((xs, (ys, zs)), ((xr, (yr, zr)), ((xp, (yp, zp)), ((xe, (ye, ze)), ((xz, (yz, zz)), k)))))) = simp joined at h in
-    let x = axis-holds (s .points) (s .x) (record { small = xs; remainders = xr; present = xp; estimate = xe; empty = xz }) in
-    let y = axis-holds (s .points) (s .y) (record { small = ys; remainders = yr; present = yp; estimate = ye; empty = yz }) in
-    let z = axis-holds (s .points) (s .z) (record { small = zs; remainders = zr; present = zp; estimate = ze; empty = zz }) in
+    let x = holds-by-rules (s .points) (s .x) .1 (record { samples = xs; remainders = xr; present-point = xp; estimate = xe; empty-places = xz }) in
+    let y = holds-by-rules (s .points) (s .y) .1 (record { samples = ys; remainders = yr; present-point = yp; estimate = ye; empty-places = yz }) in
+    let z = holds-by-rules (s .points) (s .z) .1 (record { samples = zs; remainders = zr; present-point = zp; estimate = ze; empty-places = zz }) in
     record { rules = record { counts = c; on-x = x; on-y = y; on-z = z }; state = k }
+
+also : {a b : Bool} → a ≡ true → b ≡ true → (a and b) ≡ true
+also p q = simp joined (p, q)
+
+on-axes : {a b c : Bool} → a ≡ true → b ≡ true → c ≡ true → (a and b and c) ≡ true
+on-axes x y z = also x (also y z)
 
 pub holds-by : (s : Session) → Holding s → holds s ≡ true
 unfolding holds pointInRange presentPoint estimateOf
 holds-by s h =
-    let x = holding-axis (s .points) (s .x) (h .rules .on-x) in
-    let y = holding-axis (s .points) (s .y) (h .rules .on-y) in
-    let z = holding-axis (s .points) (s .z) (h .rules .on-z) in
-    simp joined (
-      h .rules .counts,
-      (
-        (x .small, (y .small, z .small)),
-        (
-          (x .remainders, (y .remainders, z .remainders)),
-          (
-            (x .present, (y .present, z .present)),
-            (
-              (x .estimate, (y .estimate, z .estimate)),
-              ((x .empty, (y .empty, z .empty)), h .state),
-            ),
-          ),
-        ),
-      ),
-    )
+    let x = holds-by-rules (s .points) (s .x) .0 (h .rules .on-x) in
+    let y = holds-by-rules (s .points) (s .y) .0 (h .rules .on-y) in
+    let z = holds-by-rules (s .points) (s .z) .0 (h .rules .on-z) in
+    also (h .rules .counts)
+    (also (on-axes (x .samples) (y .samples) (z .samples))
+    (also (on-axes (x .remainders) (y .remainders) (z .remainders))
+    (also (on-axes (x .present-point) (y .present-point) (z .present-point))
+    (also (on-axes (x .estimate) (y .estimate) (z .estimate))
+    (also (on-axes (x .empty-places) (y .empty-places) (z .empty-places))
+    (h .state))))))
 
 -- the paper's rules, one for all axes after another, are the code's tests, one axis after another
 pub as-tested : (s : Session) → holds s ≡ (countsHold s and axisHolds (s .points) (s .x) and axisHolds (s .points) (s .y) and axisHolds (s .points) (s .z) and stateHolds (s .state) s)
@@ -128,7 +126,7 @@ counts-hold s c =
 pub ready : (s : Session) → KeepsRules s → ReadySession s
 ready s h =
     let some = counts-are s (h .counts) .points in
-    record { on-x = axis-ready (s .points) (s .x) some (h .on-x); on-y = axis-ready (s .points) (s .y) some (h .on-y); on-z = axis-ready (s .points) (s .z) some (h .on-z) }
+    record { on-x = axis-ready (s .points) (s .x) (h .on-x) some; on-y = axis-ready (s .points) (s .y) (h .on-y) some; on-z = axis-ready (s .points) (s .z) (h .on-z) some }
 
 -- ---- a settled record
 
@@ -211,9 +209,9 @@ waiting s t =
     let r = expecting s t in
     record {
       ready = ready s h;
-      on-x = estimate-placed (s .points) (s .x) (c .points) (h .on-x);
-      on-y = estimate-placed (s .points) (s .y) (c .points) (h .on-y);
-      on-z = estimate-placed (s .points) (s .z) (c .points) (h .on-z);
+      on-x = estimate-placed (s .points) (s .x) (h .on-x);
+      on-y = estimate-placed (s .points) (s .y) (h .on-y);
+      on-z = estimate-placed (s .points) (s .z) (h .on-z);
       tolerance = c .tolerance;
       accepted = r .accepted;
       corrections = omega (arith, c .limit .1, r .corrections);

@@ -3,41 +3,38 @@ use mathlib.Core.Path.{_≡_, refl, sym, ap, _∙_}
 use mathlib.Core.Bool.{Bool, true, false}
 use Prim.Native.Nat.{ℕ, zero, suc, _*_, _^_, _≤_, _<_}
 use native.Mathlib.Omega.{arith}
-use borrow.Author.Tests.{le-leb, leb-true, leb-false}
+use borrow.Author.Tests.{leb-true, leb-false}
 use lib.Dec.{leb}
-use lib.IntN.{ℤ, pos, natAbs, _-ℤ_}
+use lib.IntN.{pos}
 use Rattle.integers.specs.Tests.{joined, clash}
-use Rattle.integers.specs.Parts.{integers, difference-parts, natAbs-parts, one-part}
+use Rattle.integers.specs.Parts.{integers}
 use Rattle.exact.specs.declared.Reported.{Reported}
-use Rattle.exact.specs.Numerator.{D, exactOf, numerator, Bounded}
+use Rattle.exact.specs.Numerator.{D, exactOf, numerator}
 use Rattle.exact.specs.Laws.{numerator-exactOf}
-use Rattle.exact.specs.Bounds.{numerator-within}
 use Rattle.ticks.specs.declared.Sample.{Sample}
 use Rattle.ticks.specs.Samples.{wholeOf}
-use Rattle.axis.specs.declared.Motion.{Motion}
-use Rattle.axis.specs.Estimates.{changeOf, agreesOn}
-use Rattle.axis.specs.Ready.{Placed}
+use Rattle.axis.proofs.Agreement.{change-within, agrees-iff}
 use Rattle.session.specs.declared.Point.{Point}
 use Rattle.session.specs.declared.Session.{Session}
 use Rattle.session.specs.Moves.{correctedPoint}
 use Rattle.session.specs.Ready.{Waiting, PlacedPoint}
 use Rattle.steps.specs.declared.ReportedPoint.{ReportedPoint}
-use Rattle.steps.specs.declared.Correction.{Correction}
 use Rattle.steps.specs.declared.Correction.the-variants as C
-use Rattle.steps.specs.Answers.{reportedChange, noChange}
+use Rattle.steps.specs.Answers.{reportedChange}
 use Rattle.steps.specs.Refusals.{agrees, largestChange, correctRefusal}
 use Rattle.steps.specs.Steps.{judged, correctBy, correctOf}
 
 -- ---- a point that does not agree
 
-on : (tolerance : ℕ) (m e : Motion) → changeOf m e ≤ tolerance * D → agreesOn tolerance m e ≡ true
-unfolding agreesOn
-on tolerance m e h = le-leb (changeOf m e) (tolerance * D) h
-
 module _ (s : Session) (q : Point) where
   agrees-within : largestChange s q ≤ s .tolerance * D → agrees s q ≡ true
   unfolding agrees largestChange
-  agrees-within h = simp joined (on (s .tolerance) (q .x) (s .x .estimate) (omega arith), (on (s .tolerance) (q .y) (s .y .estimate) (omega arith), on (s .tolerance) (q .z) (s .z .estimate) (omega arith)))
+  agrees-within h =
+      let t = s .tolerance in
+      simp joined (
+        agrees-iff t (q .x) (s .x .estimate) .1 (omega arith),
+        (agrees-iff t (q .y) (s .y .estimate) .1 (omega arith), agrees-iff t (q .z) (s .z .estimate) .1 (omega arith)),
+      )
 
   pub over-tolerance : agrees s q ≡ false → s .tolerance * D < largestChange s q
   over-tolerance f = by (leb (largestChange s q) (s .tolerance * D)) refl
@@ -71,21 +68,9 @@ module _ (s : Session) (a : Sample) (q : ReportedPoint) (c : Reported) where
       let g = sym (numerator-exactOf (pos n)) ∙ ap (λ r. numerator (r .exact)) (sym f) ∙ ap numerator z ∙ numerator-exactOf (pos 0) in
       omega integers
 
--- ---- its size: two positions in range are less than 2^53 ticks apart
+-- ---- its size: two positions in range are at most 2^53 ticks apart
 
-module _ {m e : Motion} (p : Placed m) (q : Placed e) where
-  change-small : changeOf m e < 2 ^ 53 * D
-  unfolding changeOf
-  change-small =
-      let d = numerator (m .position) -ℤ numerator (e .position) in
-      omega (arith, numerator-within (p .position), numerator-within (q .position), difference-parts (numerator (m .position)) (numerator (e .position)), natAbs-parts d, one-part d)
-
-pub largest-small : (s : Session) (q : Point) → Waiting s → PlacedPoint q → largestChange s q < 2 ^ 53 * D
+pub largest-within : (s : Session) (q : Point) → Waiting s → PlacedPoint q → largestChange s q ≤ 2 ^ 53 * D
 unfolding largestChange
-largest-small s q w p =
-    omega (arith, change-small (p .on-x) (w .on-x), change-small (p .on-y) (w .on-y), change-small (p .on-z) (w .on-z))
-
--- the whole of a size below 2^53 ticks
-pub size-reports : (n : ℕ) → n < 2 ^ 53 * D → natAbs (exactOf (pos n) .whole) ≤ 2 ^ 53
-unfolding exactOf
-size-reports n h = omega arith
+largest-within s q w p =
+    omega (arith, change-within (q .x) (s .x .estimate) (p .on-x) (w .on-x), change-within (q .y) (s .y .estimate) (p .on-y) (w .on-y), change-within (q .z) (s .z .estimate) (p .on-z) (w .on-z))

@@ -2,9 +2,7 @@
 use mathlib.Core.Path.{_≡_, refl, sym, subst}
 use mathlib.Core.Bool.{Bool, true, false, cond}
 use mathlib.Core.List.{List}
-use Prim.Native.Nat.{ℕ, zero, suc, _*_, _^_, _≤_, _<_}
-use native.Mathlib.Omega.{arith}
-use lib.Dec.{lit<}
+use Prim.Native.Nat.{ℕ, zero, suc, _*_, _^_, _≤_, _<_, zero-le}
 use lib.Ieee.{Float}
 use lib.IntN.{pos, natAbs}
 use Rattle.exact.specs.declared.Exact.{Exact}
@@ -18,21 +16,22 @@ use Rattle.ticks.specs.declared.Sample.{Sample}
 use Rattle.ticks.specs.Samples.{wholeOf}
 use Rattle.axis.specs.declared.Motion.{Motion}
 use Rattle.axis.specs.Ready.{Placed}
+use Rattle.axis.proofs.Kept.{still-placed}
+use Rattle.axis.proofs.Agreement.{size-reports}
 use Rattle.session.specs.declared.Point.{Point}
 use Rattle.session.specs.declared.Session.{Session}
 use Rattle.session.specs.Moves.{nowhere, predictedPoint, correctedPoint}
 use Rattle.session.specs.Ready.{PlacedPoint}
-use Rattle.session.proofs.Axes.{still-placed}
 use Rattle.session.proofs.Rules.{waiting}
 use Rattle.session.proofs.Kept.{predicted-point-placed, corrected-point-placed}
 use Rattle.steps.specs.declared.Start.{Start}
-use Rattle.steps.specs.Answers.{Answer, answer, unless, reportedMotion, reportedPoint, reportedChange, noPoint, noChange, openingAnswer, predictionAnswer, correctionAnswer, withdrawalAnswer}
+use Rattle.steps.specs.Answers.{answer, unless, reportedMotion, reportedPoint, reportedChange, noPoint, noChange, openingAnswer, predictionAnswer, correctionAnswer, withdrawalAnswer}
 use Rattle.steps.specs.Faithful.{Faithful, FaithfulMotion, FaithfulPoint, FaithfulAnswer}
 use Rattle.steps.specs.Refusals.{openRefusal, predictRefusal, agrees, largestChange, correctRefusal, withdrawRefusal}
 use Rattle.steps.specs.Steps.{openOf, predictOf, correctOf, withdrawOf}
 use Rattle.steps.proofs.Refusals.{predict-0, correct-0}
 use Rattle.steps.proofs.Answers.{open-answers, predict-answers, correct-answers, withdraw-answers}
-use Rattle.steps.proofs.Changes.{largest-small, size-reports}
+use Rattle.steps.proofs.Changes.{largest-within}
 
 -- ---- values
 
@@ -54,13 +53,13 @@ no-point : FaithfulPoint noPoint
 unfolding noPoint nowhere
 no-point = point nowhere (record { on-x = still-placed; on-y = still-placed; on-z = still-placed })
 
-change : (n : ℕ) → n < 2 ^ 53 * D → Faithful (reportedChange n)
+change : (n : ℕ) → n ≤ 2 ^ 53 * D → Faithful (reportedChange n)
 unfolding reportedChange
 change n h = faithful (exactOf (pos n)) (part-below (pos n)) (size-reports n h)
 
 no-change : Faithful noChange
 unfolding noChange
-no-change = change 0 (lit< tt)
+no-change = change 0 zero-le
 
 -- ---- answers
 
@@ -96,5 +95,5 @@ module _ (s : Session) (a : Sample) where
       go zero e =
           let r = correct-0 s a .0 e in
           let p = corrected-point-placed s (wholeOf a) (r .range) in
-          by (agrees s corrected) p (change (largestChange s corrected) (largest-small s corrected (waiting s (r .standing)) p))
+          by (agrees s corrected) p (change (largestChange s corrected) (largest-within s corrected (waiting s (r .standing)) p))
       go (suc n) e = record { point = no-point; change = no-change }

@@ -5,7 +5,6 @@ use mathlib.Core.Bool.{Bool, true, false, not, cond}
 use mathlib.Core.List.{List}
 use Prim.Native.Nat.{ℕ, zero, suc, _+_, _<_}
 use native.Mathlib.Nat.{suc-ne-zero}
-use native.Mathlib.Omega.{arith}
 use borrow.Author.Tests.{leb-false, eqb-true, eqb-false, ne-eqb}
 use lib.Dec.{eqb}
 use lib.Ieee.{Float}
@@ -16,7 +15,7 @@ use Rattle.ticks.proofs.Faults.{whole-within}
 use Rattle.session.specs.declared.Point.{Point}
 use Rattle.session.specs.declared.Session.{Session}
 use Rattle.session.specs.Numbers.{mostPoints}
-use Rattle.session.specs.Moves.{predictedPoint, correctedPoint, settledAgain, closedSession}
+use Rattle.session.specs.Moves.{correctedPoint, settledAgain, closedSession}
 use Rattle.session.specs.Holding.{holds, settled, awaiting}
 use Rattle.session.proofs.Rules.{settled-holds, awaiting-holds}
 use Rattle.session.proofs.Kept.{predicted-holds, corrected-point-placed, again-holds, accepted-holds, settled-again, opened-session-holds}

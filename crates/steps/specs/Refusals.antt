@@ -22,7 +22,7 @@ use Rattle.steps.specs.Opening.{wholePoint}
 
 -- ---- samples: all of them are looked at for 4 before any is for 5
 
-unfoldable pub sampleRules : List Float → List (Bool × ℕ)
+abbrev pub sampleRules : List Float → List (Bool × ℕ)
 sampleRules xs =
     (any isNotANumber xs || any isInfinite xs, 4)
     ∷ (any isTooLarge xs, 5)
@@ -37,7 +37,7 @@ faultNumber TooLarge = 5
 
 -- ---- open
 
-unfoldable pub openRules : ℕ → ℕ → ℕ → Start → List Float → List (Bool × ℕ)
+abbrev pub openRules : ℕ → ℕ → ℕ → Start → List Float → List (Bool × ℕ)
 openRules p tolerance limit start floats =
     (not (pointsHold p), 1)
     ∷ (not (eqb (length floats) (3 * p)), 2)
@@ -54,7 +54,7 @@ openRefusal p tolerance limit start floats = firstOf (openRules p tolerance limi
 unfoldable pub full : Session → Bool
 full s = leb mostPoints (s .accepted)
 
-unfoldable pub predictRules : Session → List (Bool × ℕ)
+abbrev pub predictRules : Session → List (Bool × ℕ)
 predictRules s =
     (not (settled s), 7)
     ∷ (full s, 9)
@@ -82,13 +82,13 @@ unfoldable pub isLast : Session → Bool
 isLast s = leb (s .limit) (s .corrections + 1)
 
 -- the corrected point
-unfoldable pub pointRules : Session → Point → List (Bool × ℕ)
+abbrev pub pointRules : Session → Point → List (Bool × ℕ)
 pointRules s q =
     (not (pointInRange q), 6)
     ∷ (not (agrees s q) and isLast s, 8)
     ∷ []
 
-unfoldable pub correctRules : Session → Sample → List (Bool × ℕ)
+abbrev pub correctRules : Session → Sample → List (Bool × ℕ)
 correctRules s a = (not (awaiting s), 7) ∷ (sampleRules (axesOf a) ++ pointRules s (correctedPoint s (wholeOf a)))
 
 unfoldable pub correctRefusal : Session → Sample → ℕ
@@ -96,7 +96,7 @@ correctRefusal s a = firstOf (correctRules s a)
 
 -- ---- withdraw
 
-unfoldable pub withdrawRules : Session → List (Bool × ℕ)
+abbrev pub withdrawRules : Session → List (Bool × ℕ)
 withdrawRules s = (not (awaiting s), 7) ∷ []
 
 unfoldable pub withdrawRefusal : Session → ℕ

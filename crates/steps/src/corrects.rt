@@ -17,7 +17,7 @@ use session::settle;
 use ticks::Sample;
 use ticks::WholeSample;
 ghost use mathlib.Core.Path.{_≡_};
-ghost use mathlib.Core.Bool.{true, not, cond, _&&_};
+ghost use mathlib.Core.Bool.{true};
 ghost use lib.IntN.{pos};
 ghost use Rattle.integers.specs.Tests.{firstOf};
 ghost use Rattle.exact.specs.Numerator.{exactOf};
@@ -25,7 +25,7 @@ ghost use Rattle.ticks.specs.Samples.{WithinLimit};
 ghost use Rattle.session.specs.Holding.{awaiting};
 ghost use Rattle.session.specs.Moves.{correctedPoint, pointInRange};
 ghost use Rattle.session.specs.Ready.{Waiting, PlacedPoint};
-ghost use Rattle.steps.specs.Refusals.{agrees, largestChange, isLast, pointRules};
+ghost use Rattle.steps.specs.Refusals.{agrees, largestChange, pointRules};
 ghost use Rattle.steps.specs.Steps.{correctBy, correctOf};
 
 fn is_agreed(s: Session, q: Point) -> bool
@@ -68,7 +68,7 @@ fn judge(s: Session, w: WholeSample, q: Point) -> AfterCorrect
     requires { ⌜ WithinLimit w ⌝ }
     requires { ⌜ q ≡ correctedPoint s w ⌝ }
     requires { ⌜ pointInRange q ≡ true ⌝ }
-    ensures { λ r. ⌜ r ≡ correctBy (cond (not (agrees s q) && isLast s) 8 0) s w ⌝ }
+    ensures { λ r. ⌜ r ≡ correctBy (firstOf (pointRules s q)) s w ⌝ }
 {
     let point = report_point(q);
     if is_agreed(s, q) {
@@ -114,7 +114,8 @@ pub fn correct_step(s: Session, a: Sample) -> AfterCorrect
         return refuse_correct(s, 7);
     }
     let rounded = ticks::round_sample(a);
-    let number = fault_number(rounded.fault);
+    let fault = rounded.fault;
+    let number = fault_number(fault);
     if number != 0 {
         return refuse_correct(s, number);
     }
