@@ -17,7 +17,7 @@ use Rattle.steps.specs.declared.ReportedPoint.{ReportedPoint}
 use Rattle.steps.specs.declared.Prediction.{Prediction}
 use Rattle.steps.specs.declared.Prediction.the-variants as P
 use Rattle.steps.specs.Answers.{reportedPoint}
-use Rattle.steps.specs.Refusals.{full, predictRules, predictRefusal}
+use Rattle.steps.specs.Refusals.{full, predictRefusal}
 use Rattle.steps.specs.Steps.{predictBy, predictOf}
 use Rattle.demands.specs.Histories.{ours, Call, after, history, entries, samplesOf}
 use Rattle.demands.specs.ClosedForm.{Origin, Begins, Stands}
@@ -48,7 +48,7 @@ answer-by zero s = refl
 answer-by (suc n) s = refl
 
 answers-alike : (s t : Session) → settled s ≡ settled t → s .accepted ≡ t .accepted → predictedPoint s ≡ predictedPoint t → predictOf s .answer ≡ predictOf t .answer
-unfolding predictOf predictRefusal predictRules full
+unfolding predictOf predictRefusal full
 answers-alike s t f n q =
     answer-by (predictRefusal s) s
     ∙ (λ i. answerBy (firstOf ((not (f i), 7) ∷ (leb mostPoints (n i), 9) ∷ (not (pointInRange (q i)), 6) ∷ [])) (q i))

@@ -32,7 +32,7 @@ use Rattle.steps.specs.declared.Prediction.the-variants as P
 use Rattle.steps.specs.declared.Correction.the-variants as C
 use Rattle.steps.specs.Answers.{reportedMotion, reportedPoint, reportedChange, noPoint, noChange}
 use Rattle.steps.specs.Opening.{wholePoint, axisSamples, openedWith}
-use Rattle.steps.specs.Refusals.{sampleRules, openRules, openRefusal, full, predictRules, predictRefusal, agrees, largestChange, isLast, pointRules, correctRules, correctRefusal, withdrawRules, withdrawRefusal}
+use Rattle.steps.specs.Refusals.{openRefusal, full, predictRefusal, agrees, largestChange, isLast, correctRefusal, withdrawRefusal}
 use Rattle.steps.specs.Steps.{openOf, predictOf, correctOf, withdrawOf}
 use Rattle.demands.specs.Coordinates.{onX, positionIn}
 use Rattle.demands.specs.Histories.{Request, ours, Call, predict, correct, after, history, Entry, entries, samplesOf, agains}
@@ -130,6 +130,7 @@ pub record Computed : Type 0 where
   pub settledFirst : settled (start wide) ≡ true
   pub stateFirst : stateNumber (start wide .state) ≡ 1
   pub accepted0 : start wide .accepted ≡ 0
+  pub accepted0Narrow : start narrow .accepted ≡ 0
   -- H3, H4: a prediction, and its withdrawal
   pub predicts : predictRefusal (start wide) ≡ 0
   pub point1 : predicted (P.Predicted (reportedPoint (predictedPoint (start wide)))) ≡ pos 1016
@@ -145,8 +146,8 @@ pub record Computed : Type 0 where
   pub correctsAgain : correctRefusal (waiting narrow) a24 ≡ 0
   pub differing : agrees (waiting narrow) (correctedPoint (waiting narrow) (wholeOf a24)) ≡ false
   pub eighth : correctRefusal (waiting once) a24 ≡ 8
-  pub oneAgain : agains 0 (history ours (start narrow) (correct a24 ∷ predict ∷ [])) ≡ 1
-  pub stillAwaiting : after ours (start narrow) (correct a24 ∷ predict ∷ []) .state ≡ Awaiting
+  pub oneAgain : agains 0 (history ours (start narrow) (round [])) ≡ 1
+  pub stillAwaiting : after ours (start narrow) (round []) .state ≡ Awaiting
   -- H4 and H5 accept the same sample
   pub sampleWide : samplesOf (entries (history ours (start wide) (round []))) ≡ whole24 ∷ []
   pub sampleNarrow : samplesOf (entries (history ours (start narrow) twice)) ≡ whole24 ∷ []
@@ -173,7 +174,7 @@ pub record Computed : Type 0 where
   pub noAgains : agains (start wide .corrections) (history inventingCorrections (start wide) (predict ∷ [])) ≡ 0
 
 pub computed : Computed
-unfolding add div ofInt firstOf byDifferences exactOf numerator sameExact times c g l s total terms next divided run positionPredictor positionCorrector velocityPredictor velocityCorrector unsummedCowell adamsMoulton roundedOf any motionOf still presentMotion predictedMotion correctedMotion keptSamples advancedAxis openedAxis emptyAxis sameMotion inRange changeOf agreesOn remaindersHold samplesSmall emptyZero pointsHold settingsHold nowhere presentPoint estimateOf predictedPoint correctedPoint pointInRange settledAgain awaitingAt acceptedAt openedSession closedSession countsHold samePoint settledHolds estimateBegins awaitingHolds holds settled awaiting reportedMotion reportedPoint reportedChange noPoint noChange wholePoint axisSamples openedWith sampleRules openRules openRefusal full predictRules predictRefusal agrees largestChange isLast pointRules correctRules correctRefusal withdrawRules withdrawRefusal openOf predictOf correctOf withdrawOf firstSum secondBefore positionAt nextPosition
+unfolding add div ofInt firstOf byDifferences exactOf numerator sameExact times c g l s total terms next divided run positionPredictor positionCorrector velocityPredictor velocityCorrector unsummedCowell adamsMoulton roundedOf any motionOf still presentMotion predictedMotion correctedMotion keptSamples advancedAxis openedAxis emptyAxis sameMotion inRange changeOf agreesOn remaindersHold samplesSmall emptyZero pointsHold settingsHold nowhere presentPoint estimateOf predictedPoint correctedPoint pointInRange settledAgain awaitingAt acceptedAt openedSession closedSession countsHold samePoint settledHolds estimateBegins awaitingHolds holds settled awaiting reportedMotion reportedPoint reportedChange noPoint noChange wholePoint axisSamples openedWith openRefusal full predictRefusal agrees largestChange isLast correctRefusal withdrawRefusal openOf predictOf correctOf withdrawOf firstSum secondBefore positionAt nextPosition
 computed =
     record {
       opens = refl;
@@ -184,6 +185,7 @@ computed =
       settledFirst = refl;
       stateFirst = refl;
       accepted0 = refl;
+      accepted0Narrow = refl;
       predicts = refl;
       point1 = refl;
       next1 = refl;

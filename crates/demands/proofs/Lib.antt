@@ -12,3 +12,4 @@ pub mod Openings
 pub mod Examples
 pub mod TurnedDown
 pub mod Theorems
+pub mod Controls

@@ -2,10 +2,10 @@
 use mathlib.Core.Path.{_≡_, refl, sym, ap, _∙_}
 use mathlib.Core.Bool.{true}
 use mathlib.Core.List.{List}
-use Prim.Native.Nat.{ℕ, zero, suc, _+_, _*_, _-_, _<_}
+use Prim.Native.Nat.{ℕ, _+_, _*_, _-_, _<_}
 use native.Mathlib.Omega.{arith}
 use lib.IntN.{ℤ}
-use lib.ListN.{getD}
+use lib.ListN.{length, getD}
 use lib.Ieee.{Float}
 use Rattle.integers.specs.Differences.{at, at-taken}
 use Rattle.ticks.specs.Round.{roundedOf, ticksIn}
@@ -16,11 +16,11 @@ use Rattle.session.proofs.Rules.{settled-holds}
 use Rattle.session.proofs.Present.{present-opened}
 use Rattle.steps.specs.declared.Opening.the-variants as O
 use Rattle.steps.specs.Answers.{openingAnswer}
-use Rattle.steps.specs.Opening.{wholePoint, axisSamples, openedWith}
+use Rattle.steps.specs.Opening.{wholePoint, openedWith}
 use Rattle.steps.specs.Refusals.{openRefusal}
 use Rattle.steps.specs.Steps.{openBy, openOf}
 use Rattle.steps.proofs.Answers.{open-answers}
-use Rattle.steps.proofs.Given.{start-placed}
+use Rattle.steps.proofs.Given.{start-placed, at-samples}
 use Rattle.steps.proofs.Left.{open-settles}
 use Rattle.steps.proofs.Refusals.{open-0}
 use Rattle.demands.specs.Coordinates.{Coordinate, onX, onY, onZ, axisOf, positionOf, velocityOf}
@@ -74,11 +74,11 @@ module _ (r : Request) where
     open-counts = (ap (λ s. s .accepted) opened, ap (λ s. s .corrections) opened)
 
 -- three floats for each back point, the oldest point first
-newest-first : (p k : ℕ) (floats : List Float) (i : ℕ) → i < p → at (axisSamples p k floats) i ≡ ticksIn (roundedOf (getD floats (3 * (p - 1 - i) + k) Float.nan))
-unfolding axisSamples
-newest-first zero k floats i h = absurd (omega arith)
-newest-first (suc p) k floats zero h = ap (λ n. ticksIn (roundedOf (getD floats (3 * n + k) Float.nan))) (omega arith)
-newest-first (suc p) k floats (suc i) h = newest-first p k floats i (omega arith) ∙ ap (λ n. ticksIn (roundedOf (getD floats (3 * n + k) Float.nan))) (omega arith)
-
-pub opening-sample : (r : Request) (k : Coordinate) (i : ℕ) → i < r .points → at (openingSamples r k) i ≡ ticksIn (roundedOf (getD (r .floats) (3 * (r .points - 1 - i) + place k) Float.nan))
-opening-sample r k i h = newest-first (r .points) (place k) (r .floats) i h
+pub opening-sample : (r : Request) (k : Coordinate) (i : ℕ) (d : Float) → i < r .points → length (r .floats) ≡ 3 * r .points →
+    at (openingSamples r k) i ≡ ticksIn (roundedOf (getD (r .floats) (3 * (r .points - 1 - i) + place k) d))
+opening-sample r k i d l e = at-samples (r .points) (place k) i (r .floats) d l (within k)
+  where
+    within : (k : Coordinate) → 3 * (r .points - 1 - i) + place k < length (r .floats)
+    within onX = omega arith
+    within onY = omega arith
+    within onZ = omega arith

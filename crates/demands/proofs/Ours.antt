@@ -23,13 +23,13 @@ use Rattle.demands.proofs.Alike.{same-point}
 
 -- ---- the numbers that are answered
 
-predict-number : (s : Session) → predictNumber ours s ≡ predictRefusal s
+pub predict-number : (s : Session) → predictNumber ours s ≡ predictRefusal s
 predict-number s = ap (λ a. a .number) (predict-answers s)
 
-correct-number : (s : Session) (a : Sample) → correctNumber ours s a ≡ correctRefusal s a
+pub correct-number : (s : Session) (a : Sample) → correctNumber ours s a ≡ correctRefusal s a
 correct-number s a = ap (λ a. a .number) (correct-answers s a)
 
-withdraw-number : (s : Session) → withdrawNumber ours s ≡ withdrawRefusal s
+pub withdraw-number : (s : Session) → withdrawNumber ours s ≡ withdrawRefusal s
 withdraw-number s = ap (λ a. a .number) (withdraw-answers s)
 
 pub demand1 : Demand1 ours

@@ -28,7 +28,7 @@ use Rattle.session.specs.Ready.{PlacedPoint}
 use Rattle.session.proofs.Rules.{points-hold, settings-hold, axes-in-range}
 use Rattle.session.proofs.Kept.{predicted-point-placed, corrected-point-placed}
 use Rattle.steps.specs.Opening.{wholePoint}
-use Rattle.steps.specs.Refusals.{sampleRules, openRules, openRefusal, full, predictRules, predictRefusal, agrees, isLast, pointRules, correctRules, correctRefusal, withdrawRefusal}
+use Rattle.steps.specs.Refusals.{openRules, openRefusal, full, predictRules, predictRefusal, agrees, isLast, correctRules, correctRefusal, withdrawRefusal}
 use Rattle.steps.proofs.Given.{start-placed}
 use Rattle.steps.proofs.Refusals.{open-1, open-2, open-3, open-4, open-5, open-6, predict-6, predict-7, predict-9, correct-4, correct-5, correct-6, correct-7, correct-8, withdraw-0, withdraw-7}
 use Rattle.demands.specs.Coordinates.{Coordinate, onX, onY, onZ}
@@ -152,7 +152,7 @@ module _ (r : Request) where
   start = range (wholePoint (r .start)) (start-placed (r .start))
 
   pub open-table : Exactly (openTable r) (openRefusal (r .points) (r .tolerance) (r .limit) (r .start) (r .floats))
-  unfolding openRefusal openRules sampleRules
+  unfolding openRefusal
   open-table =
       let p = passed points in
       let e = passed enough in
@@ -181,7 +181,7 @@ module _ (r : Request) where
       )
 
 pub predict-table : (s : Session) → Exactly (predictTable s) (predictRefusal s)
-unfolding predictRefusal predictRules full
+unfolding predictRefusal full
 predict-table s =
     let fit = passed (decides {t = settled s} Iff·rfl) in
     let room = decides {t = leb mostPoints (s .accepted)} (leb-true mostPoints (s .accepted), le-leb mostPoints (s .accepted)) in
@@ -205,7 +205,7 @@ unfolding isLast
 last s = decides (leb-true (s .limit) (s .corrections + 1), le-leb (s .limit) (s .corrections + 1))
 
 pub correct-table : (s : Session) (a : Sample) → Exactly (correctTable s a) (correctRefusal s a)
-unfolding correctRefusal correctRules sampleRules pointRules
+unfolding correctRefusal
 correct-table s a =
     let q = correctedPoint s (wholeOf a) in
     let w = passed (awaited s) in

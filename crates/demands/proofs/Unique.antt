@@ -22,7 +22,8 @@ use Rattle.steps.specs.declared.Correction.the-variants as C
 use Rattle.steps.specs.declared.Withdrawal.the-variants as W
 use Rattle.steps.specs.Answers.{openingAnswer, predictionAnswer, correctionAnswer, withdrawalAnswer, NotZero}
 use Rattle.steps.specs.Refusals.{predictRefusal, agrees, correctRefusal, withdrawRefusal}
-use Rattle.steps.proofs.Refusals.{Among, open-numbers, predict-numbers, correct-numbers, withdraw-numbers}
+use Rattle.steps.proofs.Rules.{Among}
+use Rattle.steps.proofs.Refusals.{open-numbers, predict-numbers, correct-numbers, withdraw-numbers}
 use Rattle.demands.specs.Histories.{Request, Implementation}
 use Rattle.demands.specs.Refusals.{Rule, Continues, Exactly, Unrefused, openTable, predictTable, correctTable, withdrawTable}
 use Rattle.demands.specs.Demands.{openNumber, predictNumber, correctNumber, withdrawNumber, Demand1, Demand2, Agree}

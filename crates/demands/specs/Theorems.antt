@@ -73,9 +73,9 @@ pub record AnyCalls : Type 0 where
       lived I s (map calling calls ++ opening r ∷ earlier) ≡ after I (I .opens r .session) calls
   -- what was opened begins at its origin, so the demands hold of it
   pub openings : (I : Implementation) → Demand3 I → Counts I → OfOpenings I
-  -- three floats for each back point, the oldest point first: the sample of point -i on coordinate k is float 3(p-1-i) + k, rounded
-  pub openingSample : (r : Request) (k : Coordinate) (i : ℕ) → i < r .points →
-      at (openingSamples r k) i ≡ ticksIn (roundedOf (getD (r .floats) (3 * (r .points - 1 - i) + place k) Float.nan))
+  -- of 3p floats, three for each back point, the oldest point first, the sample of point -i on coordinate k is float 3(p-1-i) + k, rounded (d is never read)
+  pub openingSample : (r : Request) (k : Coordinate) (i : ℕ) (d : Float) → i < r .points → length (r .floats) ≡ 3 * r .points →
+      at (openingSamples r k) i ≡ ticksIn (roundedOf (getD (r .floats) (3 * (r .points - 1 - i) + place k) d))
   -- demands 1 and 2 leave no choice
   pub unique : (I J : Implementation) → Demand1 I → Demand2 I → Demand1 J → Demand2 J → Agree I J
 
