@@ -1,7 +1,6 @@
 -- Each theorem applies to something: in the session of the figures H3 to H7 its hypotheses are met, by computing.
 use mathlib.Core.Path.{_≡_, refl, sym, ap, _∙_}
-use mathlib.Core.Bool.{true, false}
-use mathlib.Core.List.{List, [], _∷_}
+use mathlib.Core.List.{[]}
 use Prim.Native.Nat.{ℕ, _*_}
 use native.Mathlib.Omega.{arith}
 use lib.IntN.{pos}
@@ -9,7 +8,9 @@ use lib.Ieee.{Float}
 use lib.ListN.{getD}
 use Rattle.integers.specs.Differences.{at, byDifferences}
 use Rattle.exact.specs.Numerator.{D}
-use Rattle.coefficients.specs.Formulas.{unsummedCowell, adamsMoulton}
+use Rattle.coefficients.specs.Fraction.{_over_, _≐_}
+use Rattle.coefficients.specs.Rules.{l}
+use Rattle.coefficients.specs.Formulas.{unsummedCowell, adamsMoulton, series}
 use Rattle.ticks.specs.Round.{roundedOf, ticksIn}
 use Rattle.ticks.specs.Samples.{wholeOf}
 use Rattle.session.specs.Moves.{correctedPoint, settledAgain, closedSession}
@@ -18,10 +19,11 @@ use Rattle.session.proofs.Kept.{closed-fails}
 use Rattle.steps.specs.Answers.{NotZero}
 use Rattle.steps.specs.Steps.{predictOf, correctOf, withdrawOf}
 use Rattle.demands.specs.Coordinates.{onX}
-use Rattle.demands.specs.Histories.{ours, predict, step, event, after, history, entries, agains}
+use Rattle.demands.specs.Histories.{ours, predict, step, event, after, history, entries}
 use Rattle.demands.specs.Refusals.{Unrefused, Within, correctTable, withdrawTable}
 use Rattle.demands.specs.ClosedForm.{origin}
-use Rattle.demands.specs.Demands.{sample, SamePoint, Agree}
+use Rattle.demands.specs.Demands.{sample, secondDifference, SamePoint, Agree}
+use Rattle.demands.specs.BadVersions.{refusing}
 use Rattle.demands.specs.Theorems.{Alike, OfOpenings, refused7}
 use Rattle.demands.proofs.Theorems.{our-calls, any-calls}
 use Rattle.demands.proofs.Tables.{agreement, correct-table, withdraw-table}
@@ -33,6 +35,9 @@ use Rattle.demands.proofs.Examples.{wide, narrow, once, none, start, a2
 -- a number that was computed is the answer's
 given : {m n : ℕ} → m ≡ n → NotZero n → NotZero m
 given e f z = f (sym e ∙ z)
+
+clash : _≡_ {A = ℕ} 0 1 → ⊥
+clash h = omega arith
 
 seven : NotZero 7
 seven e = omega arith
@@ -79,6 +84,9 @@ cowell = sym (our-calls .demand3 .unsummed (origin wide) (start wide) begins (ro
 adams : byDifferences (adamsMoulton 1) (sample (origin wide) onX two 1) ≡ pos (18 * D)
 adams = sym (our-calls .demand3 .unsummed (origin wide) (start wide) begins (round (round [])) .adams onX 1 (omega arith) (omega (arith, computed .points))) ∙ computed .first
 
+in-ticks : secondDifference (origin wide) onX two 2 over D ≐ series l 0 3 (sample (origin wide) onX two 2)
+in-ticks = our-calls .inTicks (origin wide) (start wide) begins (round (round [])) .cowell onX 2 (omega arith) (omega (arith, computed .points))
+
 alike : Alike wide narrow
 alike = record { points = refl; start = refl; samples = λ k. refl }
 
@@ -99,10 +107,7 @@ two-points : after ours (start wide) (round (round [])) .accepted ≡ 2
 two-points = of-openings .accepted wide (computed .opened) (round (round [])) ∙ computed .points
 
 one-correction : after ours (start narrow) (round []) .corrections ≡ 1
-one-correction =
-    our-calls .counts .awaiting (start narrow) (open-begins narrow (computed .narrowly) .held) (round []) (computed .stillAwaiting)
-    ∙ ap (λ n. agains n (history ours (start narrow) (round []))) (our-calls .counts .opened narrow (computed .narrowly) .1)
-    ∙ computed .oneAgain
+one-correction = of-openings .awaiting narrow (computed .narrowly) (round []) (computed .stillAwaiting) ∙ computed .oneAgain
 
 no-correction : settledOnce .corrections ≡ 0
 no-correction = our-calls .counts .settled (start wide) (begins .held) (round []) (resting settledOnce (computed .settledWide) .state)
@@ -120,3 +125,7 @@ newest-sample = sym (any-calls .openingSample wide onX 0 Float.nan (omega arith)
 
 only-ours : Agree ours ours
 only-ours = any-calls .unique ours ours (our-calls .demand1) (our-calls .demand2) (our-calls .demand1) (our-calls .demand2)
+
+-- not every two agree
+differ : ¬ Agree ours refusing
+differ a = let e = sym (computed .opened) ∙ ap (λ r. r .answer) (a .opens wide) in clash (cc)

@@ -9,7 +9,6 @@ use lib.ListN.{length}
 use Rattle.integers.specs.Tactics.{atom, terms, ring}
 use Rattle.integers.specs.Differences.{byDifferences, back, older, by-older}
 use Rattle.exact.specs.Numerator.{D, numerator}
-use Rattle.coefficients.specs.Fraction.{_over_, _≐_}
 use Rattle.coefficients.specs.Formulas.{positionCorrector, velocityCorrector, unsummedCowell, adamsMoulton}
 use Rattle.coefficients.proofs.Unsummed.{cowell-begins, adams-begins}
 use Rattle.coefficients.proofs.Series.{cowell-series, adams-series}
@@ -159,8 +158,7 @@ module _ (o : Origin) (s : Session) (b : Begins o s) (calls : List Call) where
   pub last : (k : Coordinate) → (positionOf k (presentPoint (after ours s calls)) ≡ position o k es (length es)) × (velocityOf k (presentPoint (after ours s calls)) ≡ velocity o k es (length es))
   last k =
       let m = present-is o (samplesOf es) (after ours s calls) (points-most o s b) (invariant o s b calls .stands) k in
-      let n : length es - length es ≡ 0 = omega arith in
-      (
+      let n : length es - length es ≡ 0 = omega arith in (
         ap (λ m. numerator (m .position)) m ∙ numerator-position (positionAt o k (samplesOf es)) (velocityAt o k (samplesOf es)) ∙ sym (ap (positions o k es) n ∙ newest-position o k es all-right),
         ap (λ m. numerator (m .velocity)) m ∙ numerator-velocity (positionAt o k (samplesOf es)) (velocityAt o k (samplesOf es)) ∙ sym (ap (velocities o k es) n ∙ newest-velocity o k es all-right),
       )

@@ -127,7 +127,7 @@ pub record Computed : Type 0 where
   pub narrowly : ours .opens narrow .answer ≡ O.Opened
   pub refused : refusal none ≡ 1
   pub samples : openingSamples wide onX ≡ pos 12 ∷ []
-  pub settledFirst : settled (start wide) ≡ true
+  pub opening : origin wide .position onX ≡ pos (1000 * D)
   pub stateFirst : stateNumber (start wide .state) ≡ 1
   pub accepted0 : start wide .accepted ≡ 0
   pub accepted0Narrow : start narrow .accepted ≡ 0
@@ -182,7 +182,7 @@ computed =
       narrowly = refl;
       refused = refl;
       samples = refl;
-      settledFirst = refl;
+      opening = refl;
       stateFirst = refl;
       accepted0 = refl;
       accepted0Narrow = refl;

@@ -1,12 +1,11 @@
 -- Sessions by their openings: an open begins a history anew, what it opened begins at its origin, and what it closed accepts nothing.
 use mathlib.Core.Path.{_≡_, refl, sym, ap, _∙_, subst}
-use mathlib.Core.Bool.{true, false}
+use mathlib.Core.Bool.{false}
 use mathlib.Core.List.{List, [], _∷_, _++_, map}
-use Prim.Native.Nat.{ℕ, _+_}
+use Prim.Native.Nat.{_+_}
 use native.Mathlib.Nat.{zero-add}
 use lib.ListN.{length}
 use Rattle.integers.specs.Tests.{clash, fails}
-use Rattle.ticks.specs.declared.Sample.{Sample}
 use Rattle.ticks.specs.Samples.{wholeOf}
 use Rattle.session.specs.declared.Session.{Session}
 use Rattle.session.specs.Moves.{closedSession}
@@ -17,7 +16,7 @@ use Rattle.steps.specs.Answers.{NotZero}
 use Rattle.steps.specs.Opening.{wholePoint}
 use Rattle.steps.specs.Steps.{predictBy, predictOf, correctBy, correctOf, withdrawBy, withdrawOf}
 use Rattle.steps.proofs.Refusals.{predict-7, correct-7, withdraw-7}
-use Rattle.demands.specs.Histories.{Request, Implementation, ours, Call, predict, correct, withdraw, Event, predicting, correcting, withdrawing, step, event, after, history, Act, opening, calling, lived, Entry, entries}
+use Rattle.demands.specs.Histories.{Request, Implementation, ours, Call, predict, correct, withdraw, Event, predicting, correcting, withdrawing, step, event, after, history, Act, opening, calling, lived, entries, agains}
 use Rattle.demands.specs.ClosedForm.{Begins, originAt, origin}
 use Rattle.demands.specs.Demands.{openNumber, Demand3, Counts}
 use Rattle.demands.specs.Theorems.{Alike, OfOpenings, refused7}
@@ -44,6 +43,8 @@ of-openings I d c =
           c .accepted (I .opens r .session) (d .begins r e .held) calls
           ∙ ap (λ n. n + length (entries (history I (I .opens r .session) calls))) (c .opened r e .0)
           ∙ zero-add _;
+      awaiting = λ r e calls w.
+          c .awaiting (I .opens r .session) (d .begins r e .held) calls w ∙ ap (λ n. agains n (history I (I .opens r .session) calls)) (c .opened r e .1);
     }
 
 -- ---- a record that counts as closed
@@ -86,8 +87,7 @@ accepts-none s h (call ∷ calls) =
 pub unopened : (r : Request) → NotZero (openNumber ours r) → (calls : List Call) →
     (after ours (ours .opens r .session) calls ≡ closedSession) × (entries (history ours (ours .opens r .session) calls) ≡ [])
 unopened r f calls =
-    let e = demand1 .closed r f in
-    (
+    let e = demand1 .closed r f in (
       ap (λ s. after ours s calls) e ∙ stays closedSession closed-fails calls,
       ap (λ s. entries (history ours s calls)) e ∙ accepts-none closedSession closed-fails calls,
     )

@@ -1,10 +1,7 @@
 -- A successful `open` leaves a record that begins at the origin that was asked for, with no point accepted; and which float is which opening sample.
 use mathlib.Core.Path.{_≡_, refl, sym, ap, _∙_}
-use mathlib.Core.Bool.{true}
-use mathlib.Core.List.{List}
 use Prim.Native.Nat.{ℕ, _+_, _*_, _-_, _<_}
 use native.Mathlib.Omega.{arith}
-use lib.IntN.{ℤ}
 use lib.ListN.{length, getD}
 use lib.Ieee.{Float}
 use Rattle.integers.specs.Differences.{at, at-taken}

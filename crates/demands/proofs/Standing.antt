@@ -4,12 +4,11 @@ use mathlib.Core.List.{List, [], _∷_}
 use Prim.Native.Nat.{ℕ, zero, suc, _-_, _≤_, _<_}
 use native.Mathlib.Omega.{arith}
 use lib.IntN.{ℤ, _+ℤ_, _-ℤ_}
-use lib.ListN.{length}
 use Rattle.integers.specs.Tactics.{atom, terms, ring}
 use Rattle.integers.specs.Differences.{at, inFront, byDifferences, same-first, at-taken}
 use Rattle.exact.specs.Numerator.{numerator}
 use Rattle.exact.specs.Laws.{numerator-exactOf}
-use Rattle.coefficients.specs.Formulas.{positionPredictor, positionCorrector, velocityPredictor, velocityCorrector, weightsOf}
+use Rattle.coefficients.specs.Formulas.{positionCorrector, velocityCorrector, weightsOf}
 use Rattle.coefficients.specs.declared.Formula.{Formula}
 use Rattle.coefficients.specs.declared.Formula.the-variants.{PositionPredictor, PositionCorrector, VelocityPredictor, VelocityCorrector}
 use Rattle.coefficients.proofs.Rows.{length-weights}

@@ -1,5 +1,5 @@
 -- The tables of refusals: the tests of `steps` decide their conditions, so each number is given exactly by its table.
-use mathlib.Core.Path.{_≡_, refl, sym, ap, _∙_}
+use mathlib.Core.Path.{_≡_, refl, ap, _∙_}
 use mathlib.Core.Logic.{_↔_, _⊎_, inl, inr, Iff·rfl, Iff·and, Iff·trans}
 use mathlib.Core.Bool.{Bool, true, false, not, _||_, cond, false≢true, and-eq-true-iff}
 use mathlib.Core.List.{List, [], _∷_}
@@ -31,7 +31,7 @@ use Rattle.steps.specs.Opening.{wholePoint}
 use Rattle.steps.specs.Refusals.{openRules, openRefusal, full, predictRules, predictRefusal, agrees, isLast, correctRules, correctRefusal, withdrawRefusal}
 use Rattle.steps.proofs.Given.{start-placed}
 use Rattle.steps.proofs.Refusals.{open-1, open-2, open-3, open-4, open-5, open-6, predict-6, predict-7, predict-9, correct-4, correct-5, correct-6, correct-7, correct-8, withdraw-0, withdraw-7}
-use Rattle.demands.specs.Coordinates.{Coordinate, onX, onY, onZ}
+use Rattle.demands.specs.Coordinates.{onX, onY, onZ}
 use Rattle.demands.specs.Histories.{Request}
 use Rattle.demands.specs.Refusals.{Exactly, Some, NotFinite, TooLarge, Within, Last, openTable, predictTable, correctTable, withdrawTable}
 
@@ -159,8 +159,7 @@ module _ (r : Request) where
       let t = passed settings in
       let q = passed start in
       let f = unfit (r .floats) in
-      let l = large (r .floats) in
-      (
+      let l = large (r .floats) in (
         Iff·trans (open-1 (r .points) (r .tolerance) (r .limit) (r .start) (r .floats)) (points .no),
         (
           Iff·trans (open-2 (r .points) (r .tolerance) (r .limit) (r .start) (r .floats)) (Iff·and p (enough .no)),
@@ -185,8 +184,7 @@ unfolding predictRefusal full
 predict-table s =
     let fit = passed (decides {t = settled s} Iff·rfl) in
     let room = decides {t = leb mostPoints (s .accepted)} (leb-true mostPoints (s .accepted), le-leb mostPoints (s .accepted)) in
-    let q = range (predictedPoint s) (predicted-point-placed s) in
-    (
+    let q = range (predictedPoint s) (predicted-point-placed s) in (
       Iff·trans (predict-7 s) (decides {t = settled s} Iff·rfl .no),
       (
         Iff·trans (predict-9 s) (Iff·and fit (room .yes)),
@@ -213,8 +211,7 @@ correct-table s a =
     let l = large (axesOf a) in
     let r = range q (corrected-point-placed s (wholeOf a)) in
     let g = agreement s q in
-    let eight = decides {t = not (agrees s q) and isLast s} (Iff·trans (and-eq-true-iff (not (agrees s q)) (isLast s)) (Iff·and (Iff·trans (not-true-iff (agrees s q)) (g .no)) (last s .yes))) in
-    (
+    let eight = decides {t = not (agrees s q) and isLast s} (Iff·trans (and-eq-true-iff (not (agrees s q)) (isLast s)) (Iff·and (Iff·trans (not-true-iff (agrees s q)) (g .no)) (last s .yes))) in (
       Iff·trans (correct-7 s a) (awaited s .no),
       (
         Iff·trans (correct-4 s a) (Iff·and w (f .yes)),

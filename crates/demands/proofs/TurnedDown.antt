@@ -1,33 +1,30 @@
 -- Each bad version fails the demand that is named for it, in the session of the figures.
 use mathlib.Core.Path.{_≡_, refl, sym, ap, _∙_, subst}
-use mathlib.Core.Bool.{true}
 use mathlib.Core.List.{List, [], _∷_}
-use Prim.Native.Nat.{ℕ, _*_, _≤_}
+use Prim.Native.Nat.{ℕ, _*_}
 use native.Mathlib.Omega.{arith}
 use lib.IntN.{pos, negℤ, natAbs}
-use lib.ListN.{length}
 use Rattle.exact.specs.Numerator.{D}
 use Rattle.ticks.specs.declared.WholeSample.{WholeSample}
 use Rattle.ticks.specs.Samples.{wholeOf}
 use Rattle.session.specs.declared.Session.{Session}
 use Rattle.session.specs.Moves.{presentPoint}
-use Rattle.session.specs.Holding.{holds}
 use Rattle.steps.specs.declared.Prediction.{Prediction}
 use Rattle.steps.specs.declared.Prediction.the-variants as P
 use Rattle.steps.specs.Answers.{noPoint, reportedPoint, predictionAnswer}
 use Rattle.steps.specs.Steps.{predictOf}
 use Rattle.demands.specs.Coordinates.{onX}
-use Rattle.demands.specs.Histories.{ours, Call, predict, correct, withdraw, predicting, correcting, after, history, entries, samplesOf}
+use Rattle.demands.specs.Histories.{Call, predict, correct, withdraw, predicting, correcting, after, history, entries, samplesOf}
 use Rattle.demands.specs.Refusals.{Exactly, Unrefused, openTable, predictTable}
 use Rattle.demands.specs.ClosedForm.{Origin, Begins, origin, Predicts, Corrects, Tells}
-use Rattle.demands.specs.Demands.{predictNumber, Unsummed, Demand1, Demand2, Formulas, Demand3, Counts}
+use Rattle.demands.specs.Demands.{Unsummed, Demand1, Demand2, Formulas, Demand3, Counts, Leaves}
 use Rattle.demands.specs.BadVersions.{zeroed, refusing, predictingZero, unmoving, repeating, inventingPoints, inventingCorrections}
 use Rattle.demands.specs.Theorems.{TurnedDown}
 use Rattle.demands.proofs.Tables.{open-table, predict-table}
 use Rattle.demands.proofs.Opens.{open-begins}
 use Rattle.demands.proofs.Alike.{same-point}
 use Rattle.demands.proofs.Ours.{demand1}
-use Rattle.demands.proofs.Examples.{wide, start, a24, round, repeated, repeatingOnce, repeatingWaits, predicted, stateNumber, computed}
+use Rattle.demands.proofs.Examples.{wide, start, a24, round, repeatingOnce, repeatingWaits, predicted, stateNumber, computed}
 
 clash : _≡_ {A = ℕ} 0 1 → ⊥
 clash h = omega arith
@@ -91,13 +88,18 @@ repeatingFormulas d =
 
 -- ---- reports a point that it made up: one answer *accepted*, and the record counts none
 
-inventingPoints0 : ¬ Counts inventingPoints
-inventingPoints0 d = omega (arith, d .accepted (start wide) (begins .held) (correct a24 ∷ []))
+inventingPointsCounts : ¬ Counts inventingPoints
+inventingPointsCounts d = omega (arith, d .accepted (start wide) (begins .held) (correct a24 ∷ []))
+
+-- and its point is 0, where the record stands at 1000
+inventingPointsLast : ¬ Leaves inventingPoints
+inventingPointsLast d =
+    omega (arith, ap natAbs (sym (computed .opening) ∙ sym (begins .position onX) ∙ d .last (origin wide) (start wide) begins (correct a24 ∷ []) onX .0 ∙ computed .zeroPosition))
 
 -- ---- reports a correction that it made up: the record counts one, and no answer was *again*
 
-inventingCorrections0 : ¬ Counts inventingCorrections
-inventingCorrections0 d = omega (arith, d .awaiting (start wide) (begins .held) (predict ∷ []) (computed .invents) ∙ computed .noAgains)
+inventingCorrectionsCounts : ¬ Counts inventingCorrections
+inventingCorrectionsCounts d = omega (arith, d .awaiting (start wide) (begins .held) (predict ∷ []) (computed .invents) ∙ computed .noAgains)
 
 -- ---- what they meet
 
@@ -157,8 +159,9 @@ turned-down =
       repeating2 = repeating2;
       repeating3 = repeating3;
       repeatingFormulas = repeatingFormulas;
-      inventingPoints = inventingPoints0;
-      inventingCorrections = inventingCorrections0;
+      inventingPointsCounts = inventingPointsCounts;
+      inventingPointsLast = inventingPointsLast;
+      inventingCorrectionsCounts = inventingCorrectionsCounts;
       refusing3 = refusing3;
       predictingZero1 = predictingZero1;
     }

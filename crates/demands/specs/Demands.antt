@@ -1,6 +1,6 @@
 -- The three demands of the order, and the counts, of any implementation of the four calls. Definitions only.
 use mathlib.Core.Path.{_≡_}
-use mathlib.Core.Bool.{true, false}
+use mathlib.Core.Bool.{true}
 use mathlib.Core.Logic.{_⊎_}
 use mathlib.Core.List.{List, [], _∷_}
 use Prim.Native.Nat.{ℕ, _+_, _-_, _≤_}
@@ -28,7 +28,7 @@ use Rattle.steps.specs.Refusals.{largestChange}
 use Rattle.demands.specs.Coordinates.{Coordinate, positionOf, velocityOf, positionIn, velocityIn}
 use Rattle.demands.specs.Histories.{Request, Implementation, Call, after, history, step, Entry, entries, samplesOf, agains}
 use Rattle.demands.specs.Refusals.{Exactly, Unrefused, Within, openTable, predictTable, correctTable, withdrawTable}
-use Rattle.demands.specs.ClosedForm.{Origin, Begins, openingSamples, origin, samples, Stands, Told}
+use Rattle.demands.specs.ClosedForm.{Origin, Begins, origin, samples, Stands, Told}
 
 -- ---- demand 1: exactly when each call is refused, and what a refusal leaves
 

@@ -1,6 +1,6 @@
 -- Implementations, calls, and what calls on a record bring about: the record afterwards, the answers, and the points that were accepted.
 -- Lists of calls, of events and of points have the latest first. Definitions only.
-use Prim.Native.Nat.{ℕ, zero, suc}
+use Prim.Native.Nat.{ℕ, suc}
 use mathlib.Core.List.{List, [], _∷_, map}
 use lib.Ieee.{Float}
 use Rattle.ticks.specs.declared.Sample.{Sample}

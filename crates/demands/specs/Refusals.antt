@@ -3,14 +3,13 @@ use mathlib.Core.Path.{_≡_}
 use mathlib.Core.Bool.{true}
 use mathlib.Core.Logic.{_↔_, _⊎_}
 use mathlib.Core.List.{List, [], _∷_, _++_}
-use Prim.Native.Nat.{ℕ, _+_, _*_, _≤_, _<_}
+use Prim.Native.Nat.{ℕ, _+_, _*_, _^_, _≤_, _<_}
 use lib.IntN.{natAbs, _-ℤ_}
 use lib.Ieee.{Float, nan, inf, fin, up, down}
 use lib.Ieee.Nearest.{closest}
 use lib.ListN.{length}
 use Rattle.exact.specs.Numerator.{D}
 use Rattle.ticks.specs.declared.Sample.{Sample}
-use Rattle.ticks.specs.Round.{limit}
 use Rattle.ticks.specs.Samples.{axesOf, wholeOf}
 use Rattle.session.specs.declared.Point.{Point}
 use Rattle.session.specs.declared.Session.{Session}
@@ -65,7 +64,7 @@ NotFinite (fin s m e) = ⊥
 abbrev pub TooLarge : Float → Type 0
 TooLarge nan = ⊥
 TooLarge (inf s) = ⊥
-TooLarge (fin s m e) = limit < closest (m * up e) (down e)
+TooLarge (fin s m e) = 2 ^ 28 < closest (m * up e) (down e)
 
 -- on each axis the exact position change from the last estimate is at most the tolerance
 abbrev pub Within : Session → Point → Type 0

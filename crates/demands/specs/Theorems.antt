@@ -8,6 +8,7 @@ use lib.ListN.{length, getD}
 use Rattle.integers.specs.Differences.{at}
 use Rattle.ticks.specs.Round.{roundedOf, ticksIn}
 use Rattle.session.specs.declared.Session.{Session}
+use Rattle.session.specs.declared.State.the-variants.{Awaiting}
 use Rattle.session.specs.Moves.{closedSession}
 use Rattle.session.specs.Holding.{holds, settled}
 use Rattle.steps.specs.declared.Opening.the-variants as O
@@ -16,7 +17,7 @@ use Rattle.steps.specs.declared.Correction.the-variants as C
 use Rattle.steps.specs.declared.Withdrawal.the-variants as W
 use Rattle.steps.specs.Answers.{NotZero}
 use Rattle.demands.specs.Coordinates.{Coordinate}
-use Rattle.demands.specs.Histories.{Request, Implementation, ours, Call, predict, correct, withdraw, Event, predicting, correcting, withdrawing, step, event, after, history, Act, opening, calling, lived, entries, samplesOf}
+use Rattle.demands.specs.Histories.{Request, Implementation, ours, Call, predict, correct, withdraw, Event, predicting, correcting, withdrawing, step, event, after, history, Act, opening, calling, lived, entries, samplesOf, agains}
 use Rattle.demands.specs.ClosedForm.{Origin, Begins, place, openingSamples, origin}
 use Rattle.demands.specs.Demands.{openNumber, Demand1, Demand2, Formulas, Unsummed, UnsummedInTicks, SamePoint, Demand3, Counts, Leaves, Agree}
 use Rattle.demands.specs.BadVersions.{refusing, predictingZero, unmoving, repeating, inventingPoints, inventingCorrections}
@@ -35,6 +36,8 @@ pub record OfOpenings (I : Implementation) : Type 0 where
       SamePoint I (after I (I .opens q .session) calls) (after I (I .opens r .session) others)
   pub accepted : (r : Request) → I .opens r .answer ≡ O.Opened → (calls : List Call) →
       after I (I .opens r .session) calls .accepted ≡ length (entries (history I (I .opens r .session) calls))
+  pub awaiting : (r : Request) → I .opens r .answer ≡ O.Opened → (calls : List Call) → after I (I .opens r .session) calls .state ≡ Awaiting →
+      after I (I .opens r .session) calls .corrections ≡ agains 0 (history I (I .opens r .session) calls)
 
 -- the answer 7 to a call
 abbrev pub refused7 : Call → Event
@@ -94,9 +97,10 @@ pub record TurnedDown : Type 0 where
   pub repeating2 : ¬ Demand2 repeating
   pub repeating3 : ¬ Demand3 repeating
   pub repeatingFormulas : ¬ Formulas repeating
-  -- reports points or corrections that it made up: the counts
-  pub inventingPoints : ¬ Counts inventingPoints
-  pub inventingCorrections : ¬ Counts inventingCorrections
+  -- reports points or corrections that it made up: the counts, and that the record stands at the last point of the answers
+  pub inventingPointsCounts : ¬ Counts inventingPoints
+  pub inventingPointsLast : ¬ Leaves inventingPoints
+  pub inventingCorrectionsCounts : ¬ Counts inventingCorrections
   -- and each fails what it is said to fail: what refuses everything meets demand 3, what predicts zero meets demand 1
   pub refusing3 : Demand3 refusing
   pub predictingZero1 : Demand1 predictingZero
