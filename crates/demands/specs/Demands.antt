@@ -139,6 +139,7 @@ pub record Demand3 (I : Implementation) : Type 0 where
 -- ---- the counts that a record holds are those of the history of answers
 
 pub record Counts (I : Implementation) : Type 0 where
+  -- both begin at 0
   pub opened : (r : Request) → I .opens r .answer ≡ O.Opened → (I .opens r .session .accepted ≡ 0) × (I .opens r .session .corrections ≡ 0)
   -- one more for each answer *accepted*
   pub accepted : (s : Session) → holds s ≡ true → (calls : List Call) → after I s calls .accepted ≡ s .accepted + length (entries (history I s calls))
