@@ -53,7 +53,7 @@ module _ (S : Struct) {n : ℕ} (args : List (Argument n)) where
   passing-owns 𝓤 H A the-record κs h a vss = id⊢ 𝓤 _
   passing-owns 𝓤 H A no-record κs h a vss = snd∗ 𝓤 (sem 𝓤 H A (row (S .type) .own h (valOf (S .facts) h ∷ []))) _
 
--- ---- what a call is made of: the record, the answer, what the step gives, the other arguments over so many lifetimes, whether the step takes the record, and the rule that its result follows
+-- ---- what a call is made of: the record, the answer, what the step gives, the other arguments over so many lifetimes, whether the step takes the record, the rule that its result follows, and what the call says of the answer besides
 pub record Plan : Type 2 where
   pub lent : Struct
   pub answer : Enum
@@ -62,6 +62,7 @@ pub record Plan : Type 2 where
   pub args : List (Argument lifetimes)
   pub takes : Takes
   pub rule : (κs : Lfts lifetimes) → Denots (typesAt (taken lent args takes) κs) → outcome .D
+  pub says : (κs : Lfts lifetimes) → Denots (typesAt (taken lent args takes) κs) → answer .type .D → Type 0
 
 -- ---- the signatures and contracts. Nothing is required in any
 module _ (p : Plan) where
@@ -72,18 +73,24 @@ module _ (p : Plan) where
   abbrev pub of-step : {M : Type 1} (𝓤 : URA M) → Clauses 𝓤 Step
   of-step 𝓤 κs a = record { ghost = Unit {0}; requires = λ _. emp 𝓤; ensures = λ _ r e. fact 𝓤 (r ≡ p .rule κs a) }
 
-  -- the call leaves the record of that, and returns its answer
+  -- the call leaves the record of that, and returns its answer, of which more may be said
   abbrev pub Call : Ended
   Call = record {
     signature = record { lifetimes = suc (p .lifetimes); outlives = []; params = mutRefTo (0 ∷ []) tt (plain (λ _. row (p .lent .type))) ∷ in-calls (p .args); result = plain (λ _. E.row (p .answer .type)) };
     kept = (yes, all yes (in-calls (p .args)));
   }
 
+  abbrev pub passed-on : (κs : Lfts (suc (p .lifetimes))) → p .lent .type .D → Denots (typesAt (in-calls (p .args)) κs) → Denots (typesAt (taken (p .lent) (p .args) (p .takes)) (κs .1))
+  passed-on κs h a = passing (p .lent) (p .args) (p .takes) (κs .1) h (downs (p .args) κs a)
+
   abbrev pub given : (κs : Lfts (suc (p .lifetimes))) → p .lent .type .D → Denots (typesAt (in-calls (p .args)) κs) → p .outcome .D
-  given κs h a = p .rule (κs .1) (passing (p .lent) (p .args) (p .takes) (κs .1) h (downs (p .args) κs a))
+  given κs h a = p .rule (κs .1) (passed-on κs h a)
+
+  abbrev pub Promised : (κs : Lfts (suc (p .lifetimes))) → p .lent .type .D → Denots (typesAt (in-calls (p .args)) κs) → p .lent .type .D → p .answer .type .D → Type 0
+  Promised κs h a next r = (next ≡ p .outcome .next (given κs h a)) × (r ≡ p .outcome .answer (given κs h a)) × p .says (κs .1) (passed-on κs h a) r
 
   abbrev pub of-call : {M : Type 1} (𝓤 : URA M) → Clauses 𝓤 Call
-  of-call 𝓤 κs a = record { ghost = Unit {0}; requires = λ _. emp 𝓤; ensures = λ _ r e. fact 𝓤 ((e .0 .now ≡ p .outcome .next (given κs (a .0 .now) (a .1))) × (r ≡ p .outcome .answer (given κs (a .0 .now) (a .1)))) }
+  of-call 𝓤 κs a = record { ghost = Unit {0}; requires = λ _. emp 𝓤; ensures = λ _ r e. fact 𝓤 (Promised κs (a .0 .now) (a .1) (e .0 .now) r) }
 
   -- and a function that owns the record and lends a copy of it to the call gives what the step would
   abbrev pub Owner : Ended

@@ -20,9 +20,9 @@ use Rattle.steps.specs.declared.Opening.the-variants as O
 use Rattle.steps.specs.declared.Prediction.the-variants as P
 use Rattle.steps.specs.declared.Correction.the-variants as C
 use Rattle.steps.specs.declared.Withdrawal.the-variants as W
-use Rattle.steps.specs.Answers.{answer, unless, noPoint, noChange, reportedPoint, reportedChange, openingAnswer, predictionAnswer, correctionAnswer, withdrawalAnswer, NumberedOpening, NumberedPrediction, NumberedCorrection, NumberedWithdrawal}
+use Rattle.steps.specs.Answers.{answer, noPoint, noChange, reportedPoint, reportedChange, openingAnswer, predictionAnswer, correctionAnswer, withdrawalAnswer, NumberedOpening, NumberedPrediction, NumberedCorrection, NumberedWithdrawal}
 use Rattle.steps.specs.Refusals.{openRefusal, predictRefusal, agrees, largestChange, correctRefusal, withdrawRefusal}
-use Rattle.steps.specs.Steps.{openBy, openOf, predictBy, predictOf, judged, correctBy, correctOf, withdrawBy, withdrawOf}
+use Rattle.steps.specs.Steps.{openBy, openOf, openAnswer, predictBy, predictOf, predictAnswerBy, predictAnswer, judged, correctBy, correctOf, correctAnswerBy, correctAnswer, withdrawBy, withdrawOf, withdrawAnswer}
 
 -- ---- the shape is one to one
 
@@ -56,10 +56,10 @@ one-withdrawal W.Withdrawn (W.Refused n) f g e = absurd (g (sym (ap (λ r. r .nu
 one-withdrawal (W.Refused m) W.Withdrawn f g e = absurd (f (ap (λ r. r .number) e))
 one-withdrawal (W.Refused m) (W.Refused n) f g e = ap W.Refused (ap (λ r. r .number) e)
 
--- ---- what each call answers: the number of the first rule that applies, and zeros if there is one
+-- ---- what each call answers
 
 module _ (p tolerance limit : ℕ) (start : Start) (floats : List Float) where
-  pub open-answers : openingAnswer (openOf p tolerance limit start floats .answer) ≡ answer (openRefusal p tolerance limit start floats) 0 noPoint noChange
+  pub open-answers : openingAnswer (openOf p tolerance limit start floats .answer) ≡ openAnswer p tolerance limit start floats
   unfolding openOf
   open-answers = go (openRefusal p tolerance limit start floats)
     where
@@ -76,11 +76,11 @@ module _ (p tolerance limit : ℕ) (start : Start) (floats : List Float) where
       go (suc n) = suc-ne-zero n
 
 module _ (s : Session) where
-  pub predict-answers : predictionAnswer (predictOf s .answer) ≡ answer (predictRefusal s) 0 (unless (predictRefusal s) (reportedPoint (predictedPoint s)) noPoint) noChange
+  pub predict-answers : predictionAnswer (predictOf s .answer) ≡ predictAnswer s
   unfolding predictOf
   predict-answers = go (predictRefusal s)
     where
-      go : (n : ℕ) → predictionAnswer (predictBy n s .answer) ≡ answer n 0 (unless n (reportedPoint (predictedPoint s)) noPoint) noChange
+      go : (n : ℕ) → predictionAnswer (predictBy n s .answer) ≡ predictAnswerBy n s
       go zero = refl
       go (suc n) = refl
 
@@ -92,7 +92,7 @@ module _ (s : Session) where
       go zero = tt
       go (suc n) = suc-ne-zero n
 
-  pub withdraw-answers : withdrawalAnswer (withdrawOf s .answer) ≡ answer (withdrawRefusal s) 0 noPoint noChange
+  pub withdraw-answers : withdrawalAnswer (withdrawOf s .answer) ≡ withdrawAnswer s
   unfolding withdrawOf
   withdraw-answers = go (withdrawRefusal s)
     where
@@ -112,12 +112,7 @@ module _ (s : Session) (a : Sample) where
   abbrev corrected : Point
   corrected = correctedPoint s (wholeOf a)
 
-  -- kind 1 without a change, or 2 with one
-  pub correct-answers : correctionAnswer (correctOf s a .answer)
-      ≡ answer (correctRefusal s a)
-      (unless (correctRefusal s a) (cond (agrees s corrected) 1 2) 0)
-      (unless (correctRefusal s a) (reportedPoint corrected) noPoint)
-      (unless (correctRefusal s a) (cond (agrees s corrected) noChange (reportedChange (largestChange s corrected))) noChange)
+  pub correct-answers : correctionAnswer (correctOf s a .answer) ≡ correctAnswer s a
   unfolding correctOf
   correct-answers = go (correctRefusal s a)
     where
@@ -125,7 +120,7 @@ module _ (s : Session) (a : Sample) where
       by true = refl
       by false = refl
 
-      go : (n : ℕ) → correctionAnswer (correctBy n s (wholeOf a) .answer) ≡ answer n (unless n (cond (agrees s corrected) 1 2) 0) (unless n (reportedPoint corrected) noPoint) (unless n (cond (agrees s corrected) noChange (reportedChange (largestChange s corrected))) noChange)
+      go : (n : ℕ) → correctionAnswer (correctBy n s (wholeOf a) .answer) ≡ correctAnswerBy n s corrected
       go zero = by (agrees s corrected)
       go (suc n) = refl
 

@@ -25,10 +25,10 @@ use Rattle.session.specs.Ready.{PlacedPoint}
 use Rattle.session.proofs.Rules.{waiting}
 use Rattle.session.proofs.Kept.{predicted-point-placed, corrected-point-placed}
 use Rattle.steps.specs.declared.Start.{Start}
-use Rattle.steps.specs.Answers.{answer, unless, reportedMotion, reportedPoint, reportedChange, noPoint, noChange, openingAnswer, predictionAnswer, correctionAnswer, withdrawalAnswer}
+use Rattle.steps.specs.Answers.{answer, reportedMotion, reportedPoint, reportedChange, noPoint, noChange, openingAnswer, predictionAnswer, correctionAnswer, withdrawalAnswer}
 use Rattle.steps.specs.Faithful.{Faithful, FaithfulMotion, FaithfulPoint, FaithfulAnswer}
 use Rattle.steps.specs.Refusals.{openRefusal, predictRefusal, agrees, largestChange, correctRefusal, withdrawRefusal}
-use Rattle.steps.specs.Steps.{openOf, predictOf, correctOf, withdrawOf}
+use Rattle.steps.specs.Steps.{openOf, predictOf, predictAnswerBy, correctOf, correctAnswerBy, withdrawOf}
 use Rattle.steps.proofs.Refusals.{predict-0, correct-0}
 use Rattle.steps.proofs.Answers.{open-answers, predict-answers, correct-answers, withdraw-answers}
 use Rattle.steps.proofs.Changes.{largest-within}
@@ -75,7 +75,7 @@ withdraw-faithful s = subst FaithfulAnswer (sym (withdraw-answers s)) (nothing (
 pub predict-faithful : (s : Session) → FaithfulAnswer (predictionAnswer (predictOf s .answer))
 predict-faithful s = subst FaithfulAnswer (sym (predict-answers s)) (go (predictRefusal s) refl)
   where
-    go : (n : ℕ) → predictRefusal s ≡ n → FaithfulAnswer (answer n 0 (unless n (reportedPoint (predictedPoint s)) noPoint) noChange)
+    go : (n : ℕ) → predictRefusal s ≡ n → FaithfulAnswer (predictAnswerBy n s)
     go zero e = record { point = point (predictedPoint s) (predicted-point-placed s (predict-0 s .0 e .range)); change = no-change }
     go (suc n) e = nothing (suc n)
 
@@ -90,8 +90,7 @@ module _ (s : Session) (a : Sample) where
       by true p c = record { point = point corrected p; change = no-change }
       by false p c = record { point = point corrected p; change = c }
 
-      go : (n : ℕ) → correctRefusal s a ≡ n
-          → FaithfulAnswer (answer n (unless n (cond (agrees s corrected) 1 2) 0) (unless n (reportedPoint corrected) noPoint) (unless n (cond (agrees s corrected) noChange (reportedChange (largestChange s corrected))) noChange))
+      go : (n : ℕ) → correctRefusal s a ≡ n → FaithfulAnswer (correctAnswerBy n s corrected)
       go zero e =
           let r = correct-0 s a .0 e in
           let p = corrected-point-placed s (wholeOf a) (r .range) in

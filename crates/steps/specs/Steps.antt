@@ -1,4 +1,4 @@
--- The four calls: the record and the answer that each gives. Definitions only.
+-- The four calls: the record and the answer that each gives, and that answer in the paper's shape. Definitions only.
 use Prim.Native.Nat.{ℕ, zero, suc, _+_}
 use mathlib.Core.Bool.{Bool, true, false, cond}
 use mathlib.Core.List.{List}
@@ -19,7 +19,7 @@ use Rattle.steps.specs.declared.Opening.the-variants as O
 use Rattle.steps.specs.declared.Prediction.the-variants as P
 use Rattle.steps.specs.declared.Correction.the-variants as C
 use Rattle.steps.specs.declared.Withdrawal.the-variants as W
-use Rattle.steps.specs.Answers.{reportedPoint, reportedChange}
+use Rattle.steps.specs.Answers.{Answer, answer, unless, noPoint, noChange, reportedPoint, reportedChange}
 use Rattle.steps.specs.Opening.{wholePoint, openedWith}
 use Rattle.steps.specs.Refusals.{openRefusal, predictRefusal, correctRefusal, withdrawRefusal, agrees, largestChange}
 
@@ -64,3 +64,28 @@ withdrawBy (suc n) s = record { session = s; answer = W.Refused (suc n) }
 
 unfoldable pub withdrawOf : Session → AfterWithdraw
 withdrawOf s = withdrawBy (withdrawRefusal s) s
+
+-- ---- what each call answers, in the paper's shape: the number of the first rule that applies, and zeros beside it unless it is 0
+
+abbrev pub openAnswer : ℕ → ℕ → ℕ → Start → List Float → Answer
+openAnswer p tolerance limit start floats = answer (openRefusal p tolerance limit start floats) 0 noPoint noChange
+
+abbrev pub predictAnswerBy : ℕ → Session → Answer
+predictAnswerBy n s = answer n 0 (unless n (reportedPoint (predictedPoint s)) noPoint) noChange
+
+abbrev pub predictAnswer : Session → Answer
+predictAnswer s = predictAnswerBy (predictRefusal s) s
+
+-- kind 1 without a change, or 2 with one
+abbrev pub correctAnswerBy : ℕ → Session → Point → Answer
+correctAnswerBy n s q =
+    answer n
+    (unless n (cond (agrees s q) 1 2) 0)
+    (unless n (reportedPoint q) noPoint)
+    (unless n (cond (agrees s q) noChange (reportedChange (largestChange s q))) noChange)
+
+abbrev pub correctAnswer : Session → Sample → Answer
+correctAnswer s a = correctAnswerBy (correctRefusal s a) s (correctedPoint s (wholeOf a))
+
+abbrev pub withdrawAnswer : Session → Answer
+withdrawAnswer s = answer (withdrawRefusal s) 0 noPoint noChange

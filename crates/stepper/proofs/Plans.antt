@@ -1,0 +1,120 @@
+-- What each call is made of, for `lending`: the record, the arguments, the answer, what the step gives, and the rule that it follows.
+use mathlib.Core.Path.{_≡_, refl}
+use mathlib.Core.List.{[], _∷_}
+use Prim.Native.Nat.{ℕ}
+use mir.Syntax.{w64, tyInt}
+use denote.Builtin.{f64}
+use denote.Struct.Field.{u64-field}
+use denote.Struct.Laws as LL
+use Rattle.lending.proofs.Data.{Struct, Enum, Outcome}
+use Rattle.lending.proofs.Arguments.{Argument, number, struct, slice}
+use Rattle.lending.proofs.Lent.{the-record, no-record}
+use Rattle.lending.proofs.Contracts.{Plan}
+use Rattle.steps.specs.Answers.{openingAnswer, predictionAnswer, correctionAnswer, withdrawalAnswer}
+use Rattle.steps.specs.Steps.{openOf, openAnswer, predictOf, predictAnswer, correctOf, correctAnswer, withdrawOf, withdrawAnswer}
+use Rattle.ticks.proofs.Sample
+use Rattle.ticks.proofs.Sample.Laws as SampleLaws
+use Rattle.session.proofs.Session
+use Rattle.session.proofs.Session.Laws as SessionLaws
+use Rattle.steps.proofs.Start
+use Rattle.steps.proofs.Start.Laws as StartLaws
+use Rattle.steps.proofs.Opening
+use Rattle.steps.proofs.Opening.Laws as OpeningLaws
+use Rattle.steps.proofs.AfterOpen
+use Rattle.steps.proofs.Prediction
+use Rattle.steps.proofs.Prediction.Laws as PredictionLaws
+use Rattle.steps.proofs.AfterPredict
+use Rattle.steps.proofs.Correction
+use Rattle.steps.proofs.Correction.Laws as CorrectionLaws
+use Rattle.steps.proofs.AfterCorrect
+use Rattle.steps.proofs.Withdrawal
+use Rattle.steps.proofs.Withdrawal.Laws as WithdrawalLaws
+use Rattle.steps.proofs.AfterWithdraw
+
+-- ---- the record, and the arguments
+abbrev session : Struct
+session = record { type = Session.the-type; facts = record { laws = SessionLaws.the-field-laws; plain = SessionLaws.the-field-plain; copy = SessionLaws.the-field-copy } }
+
+abbrev start : Struct
+start = record { type = Start.the-type; facts = record { laws = StartLaws.the-field-laws; plain = StartLaws.the-field-plain; copy = StartLaws.the-field-copy } }
+
+abbrev sample : Struct
+sample = record { type = Sample.the-type; facts = record { laws = SampleLaws.the-field-laws; plain = SampleLaws.the-field-plain; copy = SampleLaws.the-field-copy } }
+
+abbrev count : {n : ℕ} → Argument n
+count = number u64-field (record { laws = LL.u64-laws; plain = LL.u64-plain; copy = LL.u64-copy }) (tyInt w64) refl
+
+-- ---- the answers
+abbrev opening : Enum
+opening = record { type = Opening.the-type; facts = record { laws = OpeningLaws.the-field-laws; plain = OpeningLaws.the-field-plain; copy = OpeningLaws.the-field-copy } }
+
+abbrev prediction : Enum
+prediction = record { type = Prediction.the-type; facts = record { laws = PredictionLaws.the-field-laws; plain = PredictionLaws.the-field-plain; copy = PredictionLaws.the-field-copy } }
+
+abbrev correction : Enum
+correction = record { type = Correction.the-type; facts = record { laws = CorrectionLaws.the-field-laws; plain = CorrectionLaws.the-field-plain; copy = CorrectionLaws.the-field-copy } }
+
+abbrev withdrawal : Enum
+withdrawal = record { type = Withdrawal.the-type; facts = record { laws = WithdrawalLaws.the-field-laws; plain = WithdrawalLaws.the-field-plain; copy = WithdrawalLaws.the-field-copy } }
+
+-- ---- what the steps give
+abbrev opened : Outcome session opening
+opened = record { name = AfterOpen.the-type .name; D = AfterOpen.the-type .D; next = λ r. r .session; answer = λ r. r .answer; to-one = AfterOpen.the-type .to-one }
+
+abbrev predicted : Outcome session prediction
+predicted = record { name = AfterPredict.the-type .name; D = AfterPredict.the-type .D; next = λ r. r .session; answer = λ r. r .answer; to-one = AfterPredict.the-type .to-one }
+
+abbrev corrected : Outcome session correction
+corrected = record { name = AfterCorrect.the-type .name; D = AfterCorrect.the-type .D; next = λ r. r .session; answer = λ r. r .answer; to-one = AfterCorrect.the-type .to-one }
+
+abbrev withdrawn : Outcome session withdrawal
+withdrawn = record { name = AfterWithdraw.the-type .name; D = AfterWithdraw.the-type .D; next = λ r. r .session; answer = λ r. r .answer; to-one = AfterWithdraw.the-type .to-one }
+
+-- ---- the calls
+abbrev pub opens : Plan
+opens = record {
+  lent = session;
+  answer = opening;
+  outcome = opened;
+  lifetimes = 1;
+  args = count ∷ count ∷ count ∷ struct start ∷ slice 0 tt f64 ∷ [];
+  takes = no-record;
+  rule = λ κs a. openOf (a .0) (a .1 .0) (a .1 .1 .0) (a .1 .1 .1 .0) (a .1 .1 .1 .1 .0 .now);
+  says = λ κs a r. openingAnswer r ≡ openAnswer (a .0) (a .1 .0) (a .1 .1 .0) (a .1 .1 .1 .0) (a .1 .1 .1 .1 .0 .now);
+}
+
+abbrev pub predicts : Plan
+predicts = record {
+  lent = session;
+  answer = prediction;
+  outcome = predicted;
+  lifetimes = 0;
+  args = [];
+  takes = the-record;
+  rule = λ κs a. predictOf (a .0);
+  says = λ κs a r. predictionAnswer r ≡ predictAnswer (a .0);
+}
+
+abbrev pub corrects : Plan
+corrects = record {
+  lent = session;
+  answer = correction;
+  outcome = corrected;
+  lifetimes = 0;
+  args = struct sample ∷ [];
+  takes = the-record;
+  rule = λ κs a. correctOf (a .0) (a .1 .0);
+  says = λ κs a r. correctionAnswer r ≡ correctAnswer (a .0) (a .1 .0);
+}
+
+abbrev pub withdraws : Plan
+withdraws = record {
+  lent = session;
+  answer = withdrawal;
+  outcome = withdrawn;
+  lifetimes = 0;
+  args = [];
+  takes = the-record;
+  rule = λ κs a. withdrawOf (a .0);
+  says = λ κs a r. withdrawalAnswer r ≡ withdrawAnswer (a .0);
+}

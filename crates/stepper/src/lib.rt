@@ -1,0 +1,60 @@
+// The calls of the library: each is lent the session's record, takes the step by value, and leaves the record that the step gives.
+use session::Session;
+use steps::Correction;
+use steps::Opening;
+use steps::Prediction;
+use steps::Start;
+use steps::Withdrawal;
+use ticks::Sample;
+ghost use mathlib.Core.Path.{_≡_};
+ghost use Rattle.steps.specs.Answers.{openingAnswer, predictionAnswer, correctionAnswer, withdrawalAnswer};
+ghost use Rattle.steps.specs.Steps.{openOf, openAnswer, predictOf, predictAnswer, correctOf, correctAnswer, withdrawOf, withdrawAnswer};
+
+pub mod owned;
+
+pub fn open(
+    s: &mut Session,
+    points: usize,
+    tolerance: u64,
+    limit: u64,
+    start: Start,
+    samples: &[f64],
+) -> Opening
+    ensures { λ r. ⌜ (now (s .exit) ≡ openOf points tolerance limit start (now (samples .entry)) .session)
+        × (r ≡ openOf points tolerance limit start (now (samples .entry)) .answer)
+        × (openingAnswer r ≡ openAnswer points tolerance limit start (now (samples .entry))) ⌝ }
+{
+    let r = steps::open_step(points, tolerance, limit, start, samples);
+    *s = r.session;
+    r.answer
+}
+
+pub fn predict(s: &mut Session) -> Prediction
+    ensures { λ r. ⌜ (now (s .exit) ≡ predictOf (now (s .entry)) .session)
+        × (r ≡ predictOf (now (s .entry)) .answer)
+        × (predictionAnswer r ≡ predictAnswer (now (s .entry))) ⌝ }
+{
+    let r = steps::predict_step(*s);
+    *s = r.session;
+    r.answer
+}
+
+pub fn correct(s: &mut Session, a: Sample) -> Correction
+    ensures { λ r. ⌜ (now (s .exit) ≡ correctOf (now (s .entry)) a .session)
+        × (r ≡ correctOf (now (s .entry)) a .answer)
+        × (correctionAnswer r ≡ correctAnswer (now (s .entry)) a) ⌝ }
+{
+    let r = steps::correct_step(*s, a);
+    *s = r.session;
+    r.answer
+}
+
+pub fn withdraw(s: &mut Session) -> Withdrawal
+    ensures { λ r. ⌜ (now (s .exit) ≡ withdrawOf (now (s .entry)) .session)
+        × (r ≡ withdrawOf (now (s .entry)) .answer)
+        × (withdrawalAnswer r ≡ withdrawAnswer (now (s .entry))) ⌝ }
+{
+    let r = steps::withdraw_step(*s);
+    *s = r.session;
+    r.answer
+}
