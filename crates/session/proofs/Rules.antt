@@ -144,6 +144,9 @@ pub settled-holds : (s : Session) → settled s ≡ true → holds s ≡ true
 unfolding settled
 settled-holds s t = let (k, h) = simp joined at t in h
 
+pub settled-ready : (s : Session) → settled s ≡ true → ReadySession s
+settled-ready s t = ready s (holding s (settled-holds s t) .rules)
+
 pub resting : (s : Session) → settled s ≡ true → Resting s
 unfolding settled settledHolds
 resting s t =

@@ -3,6 +3,7 @@ use Prim.Native.Nat.{_≤_, _<_}
 use Rattle.axis.specs.Ready.{Ready, Placed}
 use Rattle.session.specs.declared.Point.{Point}
 use Rattle.session.specs.declared.Session.{Session}
+use Rattle.session.specs.Numbers.{mostPoints}
 
 pub record ReadySession (s : Session) : Type 0 where
   pub on-x : Ready (s .points) (s .x)
@@ -22,5 +23,5 @@ pub record Waiting (s : Session) : Type 0 where
   pub on-y : Placed (s .y .estimate)
   pub on-z : Placed (s .z .estimate)
   pub tolerance : s .tolerance ≤ 1048576
-  pub accepted : s .accepted < 1000000
+  pub accepted : s .accepted < mostPoints
   pub corrections : s .corrections < 8

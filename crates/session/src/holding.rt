@@ -81,7 +81,7 @@ fn state_holds(s: Session) -> bool
     }
 }
 
-pub fn is_open(s: Session) -> bool
+fn is_open(s: Session) -> bool
     ensures { λ r. ⌜ r ≡ holds s ⌝ }
 {
     if !counts_hold(s) {

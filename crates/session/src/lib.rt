@@ -7,7 +7,6 @@ mod moves;
 mod numbers;
 
 pub use holding::is_awaiting;
-pub use holding::is_open;
 pub use holding::is_settled;
 pub use moves::accept;
 pub use moves::await_at;

@@ -1,6 +1,6 @@
 -- `coefficients::older_part` meets its contract: with a 0 in front the first weight gives nothing.
 use mathlib.Core.Path.{_∙_, ap}
-use native.Mathlib.Nat.{le-refl}
+use lib.Dec.{lit≤}
 use borrow.Author.Needs.{needs, sfits-of}
 use lib.ListN.{drop}
 use mir.Facts.{toZ-ofZ}
@@ -11,7 +11,7 @@ use Rattle.coefficients.proofs.older_part.Statement.{statement}
 use Rattle.coefficients.proofs.older_part.Tie as tie
 
 combine-requires : tie.Need-combine-requires
-combine-requires c κs = (rw (c .weights .ensures) (bounded (c .before .args .which) (c .before .args .p) (c .before .pre .0)), (le-refl 1, c .before .pre .1))
+combine-requires c κs = (rw (c .weights .ensures) (bounded (c .before .args .which) (c .before .args .p) (c .before .pre .0)), (lit≤ tt, c .before .pre .1))
 
 returns : tie.Need-returns
 returns c =
