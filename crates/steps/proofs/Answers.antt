@@ -25,11 +25,7 @@ use Rattle.steps.specs.declared.Opening.the-variants as O
 use Rattle.steps.specs.declared.Prediction.the-variants as P
 use Rattle.steps.specs.declared.Correction.the-variants as C
 use Rattle.steps.specs.declared.Withdrawal.the-variants as W
-<<<<<<< HEAD
-use Rattle.steps.specs.Answers.{answer, noPoint, noChange, reportedPoint, reportedChange, openingAnswer, predictionAnswer, correctionAnswer, withdrawalAnswer, NumberedOpening, NumberedPrediction, NumberedCorrection, NumberedWithdrawal}
-=======
-use Rattle.steps.specs.Answers.{answer, unless, noPoint, noChange, reportedMotion, reportedPoint, reportedChange, openingAnswer, predictionAnswer, correctionAnswer, withdrawalAnswer, NumberedOpening, NumberedPrediction, NumberedCorrection, NumberedWithdrawal}
->>>>>>> steps
+use Rattle.steps.specs.Answers.{answer, noPoint, noChange, reportedMotion, reportedPoint, reportedChange, openingAnswer, predictionAnswer, correctionAnswer, withdrawalAnswer, NumberedOpening, NumberedPrediction, NumberedCorrection, NumberedWithdrawal}
 use Rattle.steps.specs.Refusals.{openRefusal, predictRefusal, agrees, largestChange, correctRefusal, withdrawRefusal}
 use Rattle.steps.specs.Steps.{openBy, openOf, openAnswer, predictBy, predictOf, predictAnswerBy, predictAnswer, judged, correctBy, correctOf, correctAnswerBy, correctAnswer, withdrawBy, withdrawOf, withdrawAnswer}
 
@@ -65,9 +61,6 @@ one-withdrawal W.Withdrawn (W.Refused n) f g e = absurd (g (sym (ap (λ r. r .nu
 one-withdrawal (W.Refused m) W.Withdrawn f g e = absurd (f (ap (λ r. r .number) e))
 one-withdrawal (W.Refused m) (W.Refused n) f g e = ap W.Refused (ap (λ r. r .number) e)
 
-<<<<<<< HEAD
--- ---- what each call answers
-=======
 -- ---- zero, where an answer carries nothing: +0 as a float
 
 abbrev zeros : Reported
@@ -84,8 +77,7 @@ pub no-change-is-zero : noChange ≡ zeros
 unfolding noChange reportedChange exactOf add div ofInt
 no-change-is-zero = refl
 
--- ---- what each call answers: the number of the first rule that applies, and zeros if there is one
->>>>>>> steps
+-- ---- what each call answers
 
 module _ (p tolerance limit : ℕ) (start : Start) (floats : List Float) where
   pub open-answers : openingAnswer (openOf p tolerance limit start floats .answer) ≡ openAnswer p tolerance limit start floats
