@@ -101,6 +101,6 @@ pub record TurnedDown : Type 0 where
   pub inventingPointsCounts : ¬ Counts inventingPoints
   pub inventingPointsLast : ¬ Leaves inventingPoints
   pub inventingCorrectionsCounts : ¬ Counts inventingCorrections
-  -- and each fails what it is said to fail: what refuses everything meets demand 3, what predicts zero meets demand 1
+  -- no demand holds for another: what refuses everything meets demand 3, and what predicts zero meets demand 1
   pub refusing3 : Demand3 refusing
   pub predictingZero1 : Demand1 predictingZero

@@ -4,7 +4,7 @@ use mathlib.Core.Bool.{true, false}
 use borrow.Author.Tests.{le-leb, lt-leb}
 use Rattle.integers.specs.Tests.{failed, passed}
 use Rattle.session.specs.Moves.{predictedPoint, pointInRange}
-use Rattle.session.proofs.Rules.{settled-holds, holding, ready}
+use Rattle.session.proofs.Rules.{settled-ready}
 use Rattle.steps.specs.Refusals.{full}
 use Rattle.steps.specs.Unrefused.{Predictable}
 use Rattle.steps.specs.Steps.{predictBy, predictOf}
@@ -30,8 +30,7 @@ returns-2 c =
 predicted-point-requires : tie.Need-predicted-point-requires
 predicted-point-requires c κs =
     let d = c .before .before in
-    let s = d .before .before .args .s in
-    ready s (holding s (settled-holds s (passed (d .before .is-settled .ensures) (d .if1 .left))) .rules)
+    settled-ready (d .before .before .args .s) (passed (d .before .is-settled .ensures) (d .if1 .left))
 
 returns-3 : tie.Need-returns-3
 unfolding predictOf full
