@@ -1,0 +1,2 @@
+-- What more than one proof of the program cites.
+pub mod Sizes
