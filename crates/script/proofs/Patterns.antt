@@ -1,11 +1,11 @@
 -- Which floats have one pattern, and which patterns are of a number.
-use mathlib.Core.Path.{_≡_, sym, ap, _∙_, subst}
-use mathlib.Core.Bool.{true, false, not}
-use Prim.Native.Nat.{ℕ, _%_, _^_, _≤_, _<_}
-use lib.Dec.{T, ltb}
+use mathlib.Core.Path.{_≡_, sym, _∙_, subst}
+use mathlib.Core.Bool.{false, not}
+use Prim.Native.Nat.{ℕ, _≤_}
+use lib.Dec.{T}
 use lib.Bits.{bitAnd, and-mask}
-use lib.Ieee.{Float, nan, inf, fin, binary64, isNan, ne, ofBits, nanBits}
-use lib.Ieee.Bits.{nanBits-above, nanBits-is}
+use lib.Ieee.{Float, nan, inf, fin, binary64, isNan, ne, nanBits}
+use lib.Ieee.Bits.{nanBits-above}
 use lib.Ieee.Compare.{nan-differs}
 use borrow.Author.Tests.{le-ltb}
 

@@ -1,5 +1,4 @@
 -- `script::calls::begins` is safe and ends.
-use mathlib.Core.Bool.{true}
 use Prim.Native.Nat.{_≤_, _-_}
 use native.Mathlib.Omega.{arith}
 use borrow.Author.Needs.{needs}

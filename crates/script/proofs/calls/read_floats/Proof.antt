@@ -1,9 +1,7 @@
 -- `script::calls::read_floats` is safe and ends.
-use mathlib.Core.Path.{_≡_}
 use Prim.Native.Nat.{_≤_, _-_}
 use native.Mathlib.Omega.{arith}
 use borrow.Author.Needs.{needs}
-use lib.ListN.{length}
 use Rattle.script.proofs.calls.read_floats.Statement.{statement}
 use Rattle.script.proofs.calls.read_floats.Tie as tie
 
