@@ -72,7 +72,13 @@ fn answer_predict(out: &mut [u8], at: usize, s: Session) -> Answered
     let after = calls::predict(s);
     let prediction = after.answer;
     let session = after.session;
-    put_both(out, at, b"predict", script::of_prediction(prediction), session)
+    put_both(
+        out,
+        at,
+        b"predict",
+        script::of_prediction(prediction),
+        session,
+    )
 }
 
 fn answer_correct(out: &mut [u8], at: usize, s: Session, line: &[u8]) -> Answered
@@ -87,7 +93,13 @@ fn answer_correct(out: &mut [u8], at: usize, s: Session, line: &[u8]) -> Answere
     let after = calls::correct(s, sample);
     let correction = after.answer;
     let session = after.session;
-    put_both(out, at, b"correct", script::of_correction(correction), session)
+    put_both(
+        out,
+        at,
+        b"correct",
+        script::of_correction(correction),
+        session,
+    )
 }
 
 fn answer_withdraw(out: &mut [u8], at: usize, s: Session) -> Answered
@@ -97,7 +109,13 @@ fn answer_withdraw(out: &mut [u8], at: usize, s: Session) -> Answered
     let after = calls::withdraw(s);
     let withdrawal = after.answer;
     let session = after.session;
-    put_both(out, at, b"withdraw", script::of_withdrawal(withdrawal), session)
+    put_both(
+        out,
+        at,
+        b"withdraw",
+        script::of_withdrawal(withdrawal),
+        session,
+    )
 }
 
 fn answer_fill(out: &mut [u8], at: usize, s: Session, line: &[u8]) -> Answered

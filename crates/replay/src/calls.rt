@@ -22,7 +22,13 @@ pub fn open(call: OpenCall) -> AfterOpen
         given[i] = values[i];
         i += 1;
     }
-    steps::open_step(settings.points, settings.tolerance, settings.limit, start, &given[..count])
+    steps::open_step(
+        settings.points,
+        settings.tolerance,
+        settings.limit,
+        start,
+        &given[..count],
+    )
 }
 
 pub fn predict(s: Session) -> AfterPredict {

@@ -45,7 +45,10 @@ fn make_room(out: &[u8], written: usize) -> Room
     ensures { λ r. ⌜ r .at + 4096 ≤ length (now (out .entry)) ⌝ }
 {
     if written + 4096 <= out.len() {
-        return Room { at: written, taken: true };
+        return Room {
+            at: written,
+            taken: true,
+        };
     }
     let taken = write_out(out, written);
     Room { at: 0, taken }
@@ -183,11 +186,24 @@ fn no_line(out: &mut [u8], p: Progress) -> Progress
 {
     let room = make_room(out, p.written);
     let s = p.session;
-    stop(out, room.at, s, std::num::wrapping_add_u64(p.count, 1), p.used)
+    stop(
+        out,
+        room.at,
+        s,
+        std::num::wrapping_add_u64(p.count, 1),
+        p.used,
+    )
 }
 
 // The answers to a piece of input: `got` new bytes, `end` with those that were held.
-pub fn answer_piece(input: &[u8], got: usize, end: usize, out: &mut [u8], s: Session, count: u64) -> Progress
+pub fn answer_piece(
+    input: &[u8],
+    got: usize,
+    end: usize,
+    out: &mut [u8],
+    s: Session,
+    count: u64,
+) -> Progress
     requires { ⌜ end ≤ length (now input) ⌝ }
     requires { ⌜ 4096 ≤ length (now out) ⌝ }
     ensures { λ r. ⌜ r .written ≤ length (now (out .entry)) ⌝ }
