@@ -1,7 +1,6 @@
 -- `replay::lines::answer_lines` meets its contract: each line lies within the input, and each answer within the output.
 use mathlib.Core.Path.{_≡_}
 use Prim.Native.Nat.{_≤_, _-_}
-use native.Mathlib.Omega.{arith}
 use borrow.Author.Needs.{needs}
 use lib.ListN.{length}
 use Rattle.replay.proofs.lines.answer_lines.Statement.{statement}

@@ -1,6 +1,5 @@
 -- `replay::lines::newline` meets its contract: the place stays between `from` and `end`.
 use Prim.Native.Nat.{_≤_, _-_}
-use native.Mathlib.Omega.{arith}
 use borrow.Author.Needs.{needs}
 use Rattle.replay.proofs.lines.newline.Statement.{statement}
 use Rattle.replay.proofs.lines.newline.Tie as tie
