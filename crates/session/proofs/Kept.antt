@@ -29,16 +29,19 @@ use Rattle.session.proofs.Present.{predicted-awaiting, estimate-awaitin
 
 -- ---- points in range
 
-pub point-placed : (q : Point) → (inRange (q .x) ≡ true → Placed (q .x)) → (inRange (q .y) ≡ true → Placed (q .y)) → (inRange (q .z) ≡ true → Placed (q .z)) → pointInRange q ≡ true → PlacedPoint q
+pub point-placed : (q : Point) → (inRange (q .x) ≡ true → Placed (q .x)) → (inRange (q .y) ≡ true → Placed (q .y)) → (inRange (q .z) ≡ true → Placed (q .z))
+    → pointInRange q ≡ true → PlacedPoint q
 point-placed q f g h r = let (x, (y, z)) = axes-in-range q .0 r in record { on-x = f x; on-y = g y; on-z = h z }
 
 pub predicted-point-placed : (s : Session) → pointInRange (predictedPoint s) ≡ true → PlacedPoint (predictedPoint s)
 unfolding predictedPoint
-predicted-point-placed s = point-placed (predictedPoint s) (predicted-placed (s .points) (s .x)) (predicted-placed (s .points) (s .y)) (predicted-placed (s .points) (s .z))
+predicted-point-placed s =
+    point-placed (predictedPoint s) (predicted-placed (s .points) (s .x)) (predicted-placed (s .points) (s .y)) (predicted-placed (s .points) (s .z))
 
 pub corrected-point-placed : (s : Session) (w : WholeSample) → pointInRange (correctedPoint s w) ≡ true → PlacedPoint (correctedPoint s w)
 unfolding correctedPoint
-corrected-point-placed s w = point-placed (correctedPoint s w) (corrected-placed (s .points) (s .x) (w .x)) (corrected-placed (s .points) (s .y) (w .y)) (corrected-placed (s .points) (s .z) (w .z))
+corrected-point-placed s w =
+    point-placed (correctedPoint s w) (corrected-placed (s .points) (s .x) (w .x)) (corrected-placed (s .points) (s .y) (w .y)) (corrected-placed (s .points) (s .z) (w .z))
 
 -- ---- settled again: withdrawn, or refused by 8
 

@@ -5,13 +5,18 @@ use mathlib.Core.List.{List}
 use Prim.Native.Nat.{ℕ, zero, suc}
 use native.Mathlib.Nat.{suc-ne-zero}
 use native.Mathlib.Omega.{arith}
-use lib.Ieee.{Float}
+use lib.IntN.{pos}
+use lib.Ieee.{Float, fin, add, div, ofInt}
+use Rattle.exact.specs.declared.Reported.{Reported}
+use Rattle.exact.specs.Numerator.{exactOf, wholly}
 use Rattle.ticks.specs.declared.Sample.{Sample}
 use Rattle.ticks.specs.Samples.{wholeOf}
+use Rattle.axis.specs.Formulas.{motionOf, still}
 use Rattle.session.specs.declared.Point.{Point}
 use Rattle.session.specs.declared.Session.{Session}
-use Rattle.session.specs.Moves.{predictedPoint, correctedPoint}
+use Rattle.session.specs.Moves.{nowhere, predictedPoint, correctedPoint}
 use Rattle.steps.specs.declared.Start.{Start}
+use Rattle.steps.specs.declared.ReportedMotion.{ReportedMotion}
 use Rattle.steps.specs.declared.Opening.{Opening}
 use Rattle.steps.specs.declared.Prediction.{Prediction}
 use Rattle.steps.specs.declared.Correction.{Correction}
@@ -20,7 +25,7 @@ use Rattle.steps.specs.declared.Opening.the-variants as O
 use Rattle.steps.specs.declared.Prediction.the-variants as P
 use Rattle.steps.specs.declared.Correction.the-variants as C
 use Rattle.steps.specs.declared.Withdrawal.the-variants as W
-use Rattle.steps.specs.Answers.{answer, noPoint, noChange, reportedPoint, reportedChange, openingAnswer, predictionAnswer, correctionAnswer, withdrawalAnswer, NumberedOpening, NumberedPrediction, NumberedCorrection, NumberedWithdrawal}
+use Rattle.steps.specs.Answers.{answer, noPoint, noChange, reportedMotion, reportedPoint, reportedChange, openingAnswer, predictionAnswer, correctionAnswer, withdrawalAnswer, NumberedOpening, NumberedPrediction, NumberedCorrection, NumberedWithdrawal}
 use Rattle.steps.specs.Refusals.{openRefusal, predictRefusal, agrees, largestChange, correctRefusal, withdrawRefusal}
 use Rattle.steps.specs.Steps.{openBy, openOf, openAnswer, predictBy, predictOf, predictAnswerBy, predictAnswer, judged, correctBy, correctOf, correctAnswerBy, correctAnswer, withdrawBy, withdrawOf, withdrawAnswer}
 
@@ -55,6 +60,22 @@ one-withdrawal W.Withdrawn W.Withdrawn f g e = refl
 one-withdrawal W.Withdrawn (W.Refused n) f g e = absurd (g (sym (ap (λ r. r .number) e)))
 one-withdrawal (W.Refused m) W.Withdrawn f g e = absurd (f (ap (λ r. r .number) e))
 one-withdrawal (W.Refused m) (W.Refused n) f g e = ap W.Refused (ap (λ r. r .number) e)
+
+-- ---- zero, where an answer carries nothing: +0 as a float
+
+abbrev zeros : Reported
+zeros = record { exact = wholly (pos 0); report = fin false 0 (pos 0) }
+
+abbrev still-zeros : ReportedMotion
+still-zeros = record { position = zeros; velocity = zeros }
+
+pub no-point-is-zero : noPoint ≡ record { x = still-zeros; y = still-zeros; z = still-zeros }
+unfolding noPoint reportedPoint reportedMotion nowhere still motionOf exactOf add div ofInt
+no-point-is-zero = refl
+
+pub no-change-is-zero : noChange ≡ zeros
+unfolding noChange reportedChange exactOf add div ofInt
+no-change-is-zero = refl
 
 -- ---- what each call answers
 

@@ -28,7 +28,7 @@ sampleRules xs =
     ∷ (any isTooLarge xs, 5)
     ∷ []
 
--- the same of the first fault
+-- the same by what is wrong with the floats, as the code finds it
 abbrev pub faultNumber : Fault → ℕ
 faultNumber Nothing = 0
 faultNumber NotANumber = 4

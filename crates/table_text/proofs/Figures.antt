@@ -6,7 +6,8 @@ use Rattle.coefficients.specs.Fraction.{times}
 use Rattle.coefficients.specs.Rules as R
 use Rattle.coefficients.specs.Scaled.{run}
 use Rattle.coefficients.specs.Formulas.{positionPredictor, positionCorrector, velocityPredictor, velocityCorrector}
-use Rattle.table_text.specs.Text.{ascii, digits, decimal, signed, numbers, line, heading, tableText, pointsIn, answerFor, answerTo}
+use Rattle.text.specs.Numbers.{ascii, digits, decimal, signed, numbers}
+use Rattle.table_text.specs.Text.{line, heading, tableText, pointsIn, answerFor, answerTo}
 use Rattle.table_text.specs.Figures.{figures}
 
 pub figures-hold : All figures

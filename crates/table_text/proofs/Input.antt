@@ -7,7 +7,8 @@ use native.Mathlib.Omega.{arith}
 use borrow.Author.Tests.{leb-true}
 use lib.Dec.{leb, eqb}
 use lib.ListN.{length, getD}
-use Rattle.table_text.specs.Text.{digit, pointsIn}
+use Rattle.text.specs.Numbers.{digit}
+use Rattle.table_text.specs.Text.{pointsIn}
 
 pub two-bytes : (s : List ℕ) → length s ≡ 2
     → pointsIn s ≡ cond (leb (digit 1) (getD s 0 0) && leb (getD s 0 0) (digit 9) && eqb (getD s 1 0) 10) (getD s 0 0 - digit 0) 0

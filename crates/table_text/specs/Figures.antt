@@ -3,7 +3,8 @@ use mathlib.Core.List.{List, [], _∷_}
 use Prim.Native.Nat.{ℕ}
 use Prim.Native.String.{String}
 use Rattle.integers.specs.Lines.{Line, line}
-use Rattle.table_text.specs.Text.{ascii, answerTo}
+use Rattle.text.specs.Numbers.{ascii}
+use Rattle.table_text.specs.Text.{answerTo}
 
 abbrev answers : String → String → Line
 answers input text = line (List ℕ) (answerTo (ascii input)) (ascii text)

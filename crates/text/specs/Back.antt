@@ -16,10 +16,9 @@ use borrow.Author.Tests.{lt-ltb, ltb-true, eqb-true, ne-eqb}
 use Rattle.integers.specs.Parts.{integers}
 use Rattle.text.specs.declared.Unsigned.{Unsigned}
 use Rattle.text.specs.declared.Unsigned.the-variants as U
-use Rattle.text.specs.declared.Signed.{Signed}
 use Rattle.text.specs.declared.Signed.the-variants as S
 use Rattle.text.specs.Places.{Wrote, Stands}
-use Rattle.text.specs.Numbers.{decimal, signed, hex, hexDigits, ascii}
+use Rattle.text.specs.Numbers.{decimal, signed, hex, ascii}
 use Rattle.text.specs.Reading.{decimalIn, decimalAt, below, notBelow, signedAt, hexAt}
 use Rattle.text.specs.DecimalBack.{NoDigit, ended, Splits}
 use Rattle.text.specs.DecimalBack as D

@@ -5,10 +5,10 @@ use mathlib.Core.List.{List, [], _∷_, _++_, append-assoc}
 use Prim.Native.Nat.{ℕ, zero, suc, _+_, _-_, _*_, _/_, _%_, _^_, _<_, _≤_}
 use native.Mathlib.Nat.{pow-suc}
 use native.Mathlib.Omega.{arith}
-use lib.Dec.{ltb, leb, eqb}
+use lib.Dec.{ltb, eqb}
 use lib.ListN.{length, length-append}
 use borrow.Author.Tests.{lt-ltb, le-leb, ltb-true, ltb-false, leb-true, eqb-true, eqb-false, ne-eqb}
-use Rattle.integers.specs.Tests.{_and_, joined}
+use Rattle.integers.specs.Tests.{joined}
 use Rattle.text.specs.declared.Unsigned.{Unsigned}
 use Rattle.text.specs.declared.Unsigned.the-variants.{Number, Nothing}
 use Rattle.text.specs.Numbers.{digit, decimal}

@@ -2,12 +2,10 @@
 use mathlib.Core.Path.{_≡_, refl, sym, _∙_, ap}
 use mathlib.Core.Bool.{Bool, true, false, cond}
 use mathlib.Core.List.{List, [], _∷_, _++_, append-assoc}
-use Prim.Native.Nat.{ℕ, zero, suc, _+_, _-_, _*_, _/_, _%_, _^_, _<_, _≤_}
-use native.Mathlib.Nat.{pow-suc, add-suc, zero-add}
+use Prim.Native.Nat.{ℕ, zero, suc, _+_, _-_, _*_, _/_, _%_, _^_, _<_}
+use native.Mathlib.Nat.{pow-suc}
 use native.Mathlib.Omega.{arith}
-use native.Mathlib.Numerals.{add-one}
 use lib.Dec.{ltb, leb}
-use lib.ListN.{length}
 use borrow.Author.Tests.{lt-ltb, le-ltb, lt-leb, le-leb, ltb-true, ltb-false, leb-true}
 use Rattle.integers.specs.Tests.{_and_, joined}
 use Rattle.text.specs.declared.Unsigned.{Unsigned}
@@ -54,7 +52,7 @@ unfolding hexGoingOn
 one-more j rest n d at h = rw (digit-back d h, lt-ltb d 16 h)
 
 -- the last k digits of n, read, are n so far
-pub through : (k n : ℕ) → n < 16 ^ k → (j : ℕ) (rest : List ℕ) (at : ℕ) → hexGoingOn (k + j) (hexDigits k n ++ rest) 0 at ≡ hexGoingOn j rest n (at + k)
+through : (k n : ℕ) → n < 16 ^ k → (j : ℕ) (rest : List ℕ) (at : ℕ) → hexGoingOn (k + j) (hexDigits k n ++ rest) 0 at ≡ hexGoingOn j rest n (at + k)
 unfolding hexDigits
 through zero n h j rest at =
     let e : n ≡ 0 = omega arith in

@@ -3,7 +3,7 @@ use Prim.Native.Nat.{ℕ, zero, suc, _+_, _/_, _%_}
 use Prim.Native.Char.{code}
 use Prim.Native.String as S
 use Prim.Native.String.{String}
-use mathlib.Core.Bool.{Bool, true, false, cond}
+use mathlib.Core.Bool.{true, false, cond}
 use mathlib.Core.List.{List, [], _∷_, _++_}
 use lib.Dec.{ltb}
 use lib.IntN.{ℤ, pos, negsuc}
@@ -29,6 +29,11 @@ decimal = digits 20
 unfoldable pub signed : ℤ → List ℕ
 signed (pos n) = decimal n
 signed (negsuc n) = ascii "-" ++ decimal (suc n)
+
+-- each number after a space
+unfoldable pub numbers : List ℤ → List ℕ
+numbers [] = []
+numbers (z ∷ zs) = ascii " " ++ signed z ++ numbers zs
 
 -- ---- hexadecimal
 

@@ -8,6 +8,7 @@ pub use reading::read_signed;
 pub use writing::put;
 pub use writing::put_decimal;
 pub use writing::put_hex;
+pub use writing::put_numbers;
 pub use writing::put_signed;
 pub use writing::put_word;
 

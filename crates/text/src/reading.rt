@@ -2,7 +2,7 @@
 ghost use mathlib.Core.Path.{_≡_};
 ghost use Prim.Native.Nat.{_<_};
 ghost use lib.ListN.{drop};
-ghost use Rattle.text.specs.Reading.{goingOn, decimalAt, below, notBelow, signedAt, hexDigitOf, hexGoingOn, hexAt};
+ghost use Rattle.text.specs.Reading.{goingOn, decimalAt, below, notBelow, signedAt, hexDigitOf, hexAt};
 use crate::Signed;
 use crate::Unsigned;
 

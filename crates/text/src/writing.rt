@@ -3,8 +3,8 @@ ghost use mathlib.Core.Path.{_≡_};
 ghost use mathlib.Core.List.{[], _∷_};
 ghost use Prim.Native.Nat.{_+_, _≤_, _<_};
 ghost use lib.IntN.{natAbs};
-ghost use lib.ListN.{length};
-ghost use Rattle.text.specs.Numbers.{decimal, signed, hexDigit, hexDigits, hex};
+ghost use lib.ListN.{length, take};
+ghost use Rattle.text.specs.Numbers.{decimal, signed, numbers, hexDigit, hexDigits, hex};
 ghost use Rattle.text.specs.Places.{Wrote};
 
 pub fn put(out: &mut [u8], at: usize, b: u8) -> usize
@@ -57,6 +57,22 @@ pub fn put_signed(out: &mut [u8], at: usize, z: i64) -> usize
     } else {
         put_decimal(out, at, size(z))
     }
+}
+
+// Each of the first p numbers, after a space.
+pub fn put_numbers(out: &mut [u8], at: usize, row: [i64; 9], p: usize) -> usize
+    requires { ⌜ p ≤ 9 ⌝ }
+    requires { ⌜ at + length (numbers (take p row)) ≤ length (now out) ⌝ }
+    ensures { λ r. ⌜ Wrote (now (out .entry)) at (numbers (take p row)) (now (out .exit)) r ⌝ }
+{
+    let mut end = at;
+    let mut k = 0;
+    while k < p {
+        end = put(out, end, b' ');
+        end = put_signed(out, end, row[k]);
+        k += 1;
+    }
+    end
 }
 
 fn hex_digit(d: u64) -> u8

@@ -6,8 +6,8 @@ use borrow.Author.Needs.{needs}
 use Rattle.io.specs.Counts.{Counts}
 use Rattle.io.proofs.Counting.{counts}
 use Rattle.table_text.specs.declared.Text.{Text}
-use Rattle.table_text.specs.Wrote.{textOf}
-use Rattle.table_text.proofs.Writes.{text-within}
+use Rattle.table_text.specs.Text.{textOf}
+use Rattle.table_text.proofs.Written.{text-within}
 use Rattle.table_printer.proofs.main.Statement.{statement}
 use Rattle.table_printer.proofs.main.Tie as tie
 

@@ -2,7 +2,8 @@
 use mathlib.Core.Path.{_≡_, refl, ap}
 use Prim.Native.Nat.{ℕ, zero, suc}
 use borrow.Author.Needs.{needs}
-use Rattle.table_text.specs.Text.{answerFor, tableText, ascii}
+use Rattle.text.specs.Numbers.{ascii}
+use Rattle.table_text.specs.Text.{answerFor, tableText}
 use Rattle.table_text.proofs.put_answer.Statement.{statement}
 use Rattle.table_text.proofs.put_answer.Tie as tie
 

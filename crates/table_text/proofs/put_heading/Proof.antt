@@ -3,10 +3,11 @@ use mathlib.Core.Path.{_≡_, ap}
 use native.Mathlib.Omega.{arith}
 use borrow.Author.Needs.{needs}
 use lib.ListN.{length}
-use Rattle.table_text.specs.Text.{heading, ascii, decimal}
-use Rattle.table_text.proofs.Digits.{decimal-small}
+use Rattle.text.specs.Numbers.{ascii, decimal}
+use Rattle.text.specs.Digits.{decimal-small}
+use Rattle.text.proofs.Writes.{then}
+use Rattle.table_text.specs.Text.{heading}
 use Rattle.table_text.proofs.Lines.{length-D}
-use Rattle.table_text.proofs.Writes.{then}
 use Rattle.table_text.proofs.put_heading.Statement.{statement}
 use Rattle.table_text.proofs.put_heading.Tie as tie
 

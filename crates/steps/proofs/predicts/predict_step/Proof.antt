@@ -3,8 +3,10 @@ use mathlib.Core.Path.{_≡_, sym, ap, _∙_}
 use mathlib.Core.Bool.{true, false}
 use borrow.Author.Tests.{le-leb, lt-leb}
 use Rattle.integers.specs.Tests.{failed, passed}
-use Rattle.session.specs.Moves.{predictedPoint, pointInRange}
-use Rattle.session.proofs.Rules.{settled-holds, holding, ready}
+use Rattle.session.specs.Moves.{predictedPoint, pointInRange, awaitingAt}
+use Rattle.session.proofs.Rules.{settled-ready}
+use Rattle.steps.specs.declared.Prediction.the-variants as P
+use Rattle.steps.specs.Answers.{reportedPoint}
 use Rattle.steps.specs.Refusals.{full}
 use Rattle.steps.specs.Unrefused.{Predictable}
 use Rattle.steps.specs.Steps.{predictBy, predictOf}
@@ -30,8 +32,7 @@ returns-2 c =
 predicted-point-requires : tie.Need-predicted-point-requires
 predicted-point-requires c κs =
     let d = c .before .before in
-    let s = d .before .before .args .s in
-    ready s (holding s (settled-holds s (passed (d .before .is-settled .ensures) (d .if1 .left))) .rules)
+    settled-ready (d .before .before .args .s) (passed (d .before .is-settled .ensures) (d .if1 .left))
 
 returns-3 : tie.Need-returns-3
 unfolding predictOf full
@@ -54,7 +55,10 @@ returns-4 c =
     let s = d .before .before .args .s in
     let r : pointInRange (predictedPoint s) ≡ true = passed (e .point-in-range .ensures ∙ ap pointInRange (e .before .predicted-point .ensures)) (c .before .before .if3 .left) in
     let h : Predictable s = record { standing = passed (d .before .is-settled .ensures) (d .if1 .left); room = lt-leb 1000000 (s .accepted) (e .before .before .if2 .left); range = r } in
-    rw (c .before .await-at .ensures, c .report-point .ensures, e .before .predicted-point .ensures) (ap (λ n. predictBy n s) (sym (predict-0 s .1 h)))
+    let q = e .before .predicted-point .ensures in
+    let session = c .before .await-at .ensures ∙ ap (awaitingAt s 0) q in
+    let point = c .report-point .ensures ∙ ap reportedPoint q in
+    (λ i. record { session = session i; answer = P.Predicted (point i) }) ∙ ap (λ n. predictBy n s) (sym (predict-0 s .1 h))
 
 pub predict-step-spec : {M : Type 1} → statement M
 predict-step-spec =

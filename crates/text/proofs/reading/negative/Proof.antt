@@ -1,12 +1,10 @@
 -- `text::reading::negative` meets its contract.
-use mathlib.Core.Path.{_≡_, sym, _∙_, ap}
+use mathlib.Core.Path.{sym}
 use Prim.Native.Nat.{_-_}
 use native.Mathlib.Omega.{arith}
 use mir.Syntax.{w64}
 use mir.Facts.{toZ-ofZ, toZ-pos}
 use borrow.Author.Needs.{needs}
-use Rattle.text.specs.declared.Unsigned.the-variants.{Number}
-use Rattle.text.specs.Reading.{below}
 use Rattle.text.proofs.Signs.{below-zero, below-too-far, below-number, below-fits}
 use Rattle.text.proofs.reading.negative.Statement.{statement}
 use Rattle.text.proofs.reading.negative.Tie as tie

@@ -1,5 +1,5 @@
 -- `text::reading::read_decimal` meets its contract.
-use mathlib.Core.Path.{_≡_, sym, _∙_, ap}
+use mathlib.Core.Path.{sym, _∙_, ap}
 use Prim.Native.Nat.{_-_, _+_}
 use borrow.Author.Needs.{needs}
 use lib.ListN.{drop}

@@ -1,11 +1,11 @@
 -- `text::reading::read_hex` meets its contract. The loop's invariant: the k digits passed are in the number so far.
-use mathlib.Core.Path.{_≡_, refl, sym, _∙_, ap}
-use Prim.Native.Nat.{ℕ, _≤_, _<_, _+_, _-_, _*_, _^_}
+use mathlib.Core.Path.{_≡_, sym, _∙_}
+use Prim.Native.Nat.{_≤_, _<_, _+_, _-_, _*_, _^_}
 use native.Mathlib.Nat.{add-zero}
 use native.Mathlib.Omega.{arith}
 use borrow.Author.Needs.{needs}
-use lib.ListN.{length, drop, getD}
-use Rattle.text.specs.Reading.{hexDigitOf, hexGoingOn, hexAt}
+use lib.ListN.{length, drop}
+use Rattle.text.specs.Reading.{hexGoingOn, hexAt}
 use Rattle.text.proofs.Hexadecimals.{short, no-digit, a-digit, all-read, wider, within}
 use Rattle.text.proofs.reading.read_hex.Statement.{statement}
 use Rattle.text.proofs.reading.read_hex.Tie as tie

@@ -1,12 +1,10 @@
 -- `text::reading::read_signed` meets its contract.
-use mathlib.Core.Path.{_≡_, sym, _∙_, ap}
+use mathlib.Core.Path.{sym, _∙_, ap}
 use borrow.Author.Needs.{needs}
 use Rattle.text.specs.Reading.{below, notBelow}
 use Rattle.text.proofs.Signs.{with-minus, without-minus, past-the-end, below-nothing, notBelow-nothing}
 use Rattle.text.proofs.reading.read_signed.Statement.{statement}
 use Rattle.text.proofs.reading.read_signed.Tie as tie
-use Rattle.text.proofs.reading.read_signed.Reads as reads
-use Rattle.text.proofs.reading.read_signed.Lts as lts
 
 returns-2 : tie.Need-returns-2
 returns-2 c = c .negative .ensures ∙ ap below (sym (c .before .before .size .given .1) ∙ c .before .before .before .before .read-decimal .ensures) ∙ sym (with-minus _ _ (c .before .before .before .before .before .if2 .taken))

@@ -1,13 +1,11 @@
 -- The proof of the cycle of calls {put_decimal}. The measure is the number.
-use mathlib.Core.Path.{_≡_, sym, _∙_, ap}
-use Prim.Native.Nat.{ℕ, _<_, _+_, _/_, _%_}
+use mathlib.Core.Path.{_∙_, ap}
+use Prim.Native.Nat.{ℕ, _<_, _+_}
 use native.Mathlib.Omega.{arith}
 use borrow.Author.Needs.{needs}
 use borrow.Fn.Kinds.{In}
 use borrow.Fn.PlainCycle.{Measures, is, falls, and}
-use denote.Ref.{now}
 use lib.ListN.{length}
-use Rattle.text.specs.Numbers.{decimal}
 use Rattle.text.proofs.Writes.{then}
 use Rattle.text.specs.Digits.{decimal-small, decimal-more, length-more}
 use Rattle.text.proofs.writing.put_decimal.Reads as self

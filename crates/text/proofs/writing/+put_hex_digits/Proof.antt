@@ -1,13 +1,11 @@
 -- The proof of the cycle of calls {put_hex_digits}. The measure is how many digits are left.
-use mathlib.Core.Path.{_≡_, refl, sym, _∙_, ap}
-use mathlib.Core.List.{List, [], _∷_, _++_}
+use mathlib.Core.Path.{_≡_, _∙_, ap}
+use mathlib.Core.List.{[], _∷_, _++_}
 use Prim.Native.Nat.{ℕ, suc, _<_, _-_, _/_, _%_}
 use native.Mathlib.Omega.{arith}
-use borrow.Author.Needs.{needs}
 use borrow.Fn.Kinds.{In}
 use borrow.Fn.PlainCycle.{Measures, is, falls, and}
 use denote.Ref.{now}
-use lib.ListN.{length}
 use Rattle.text.specs.Numbers.{hexDigit, hexDigits}
 use Rattle.text.specs.Digits.{length-hexDigits}
 use Rattle.text.proofs.Writes.{nothing, then}

@@ -1,6 +1,4 @@
 -- `text::writing::size` meets its contract.
-use mathlib.Core.Path.{_≡_, sym}
-use native.Mathlib.Omega.{arith}
 use mir.Facts.{toZ-ofZ}
 use borrow.Author.Needs.{needs}
 use Rattle.text.proofs.Signs.{turned-fits, turned-casts, turned-size, size-fits, casts}

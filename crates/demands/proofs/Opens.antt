@@ -1,0 +1,81 @@
+-- A successful `open` leaves a record that begins at the origin that was asked for, with no point accepted; and which float is which opening sample.
+use mathlib.Core.Path.{_≡_, refl, sym, ap, _∙_}
+use Prim.Native.Nat.{ℕ, _+_, _*_, _-_, _<_}
+use native.Mathlib.Omega.{arith}
+use lib.ListN.{length, getD}
+use lib.Ieee.{Float}
+use Rattle.integers.specs.Differences.{at, at-taken}
+use Rattle.ticks.specs.Round.{roundedOf, ticksIn}
+use Rattle.axis.specs.Formulas.{places, openedAxis}
+use Rattle.session.specs.declared.Session.{Session}
+use Rattle.session.specs.Moves.{presentPoint, openedSession}
+use Rattle.session.proofs.Rules.{settled-holds}
+use Rattle.session.proofs.Present.{present-opened}
+use Rattle.steps.specs.declared.Opening.the-variants as O
+use Rattle.steps.specs.Answers.{openingAnswer}
+use Rattle.steps.specs.Opening.{wholePoint, openedWith}
+use Rattle.steps.specs.Refusals.{openRefusal}
+use Rattle.steps.specs.Steps.{openBy, openOf}
+use Rattle.steps.proofs.Answers.{open-answers}
+use Rattle.steps.proofs.Given.{start-placed, at-samples}
+use Rattle.steps.proofs.Left.{open-settles}
+use Rattle.steps.proofs.Refusals.{open-0}
+use Rattle.demands.specs.Coordinates.{Coordinate, onX, onY, onZ, axisOf, positionOf, velocityOf}
+use Rattle.demands.specs.Histories.{Request, ours}
+use Rattle.demands.specs.ClosedForm.{Begins, place, openingSamples, origin}
+
+module _ (r : Request) where
+  abbrev pub refusal : ℕ
+  refusal = openRefusal (r .points) (r .tolerance) (r .limit) (r .start) (r .floats)
+
+  abbrev session : Session
+  session = openedWith (r .points) (r .tolerance) (r .limit) (wholePoint (r .start)) (r .floats)
+
+  -- the answer's number is the refusal's
+  pub number-is : openingAnswer (ours .opens r .answer) .number ≡ refusal
+  number-is = ap (λ a. a .number) (open-answers (r .points) (r .tolerance) (r .limit) (r .start) (r .floats))
+
+  module _ (e : ours .opens r .answer ≡ O.Opened) where
+    not-refused : refusal ≡ 0
+    not-refused = sym number-is ∙ ap (λ a. openingAnswer a .number) e
+
+    opened : ours .opens r .session ≡ session
+    unfolding openOf
+    opened = ap (λ n. openBy n (r .points) (r .tolerance) (r .limit) (r .start) (r .floats) .session) not-refused
+
+    present : presentPoint (ours .opens r .session) ≡ wholePoint (r .start)
+    unfolding openedWith
+    present =
+        ap presentPoint opened
+        ∙ present-opened (r .points) (r .tolerance) (r .limit) (wholePoint (r .start)) _ _ _ (start-placed (r .start) (open-0 (r .points) (r .tolerance) (r .limit) (r .start) (r .floats) .0 not-refused .range))
+
+    samples-are : (k : Coordinate) → axisOf k session .samples ≡ places (r .points) (openingSamples r k)
+    unfolding openedWith openedSession openedAxis
+    samples-are onX = refl
+    samples-are onY = refl
+    samples-are onZ = refl
+
+    pub open-begins : Begins (origin r) (ours .opens r .session)
+    unfolding openedWith openedSession
+    open-begins =
+        record {
+          held = settled-holds (ours .opens r .session) (open-settles (r .points) (r .tolerance) (r .limit) (r .start) (r .floats) not-refused);
+          points = ap (λ s. s .points) opened;
+          position = λ k. ap (positionOf k) present;
+          velocity = λ k. ap (velocityOf k) present;
+          samples = λ k i l. ap (λ s. at (axisOf k s .samples) i) opened ∙ ap (λ xs. at xs i) (samples-are k) ∙ at-taken (r .points) (9 - r .points) (openingSamples r k) i l;
+        }
+
+    pub open-counts : (ours .opens r .session .accepted ≡ 0) × (ours .opens r .session .corrections ≡ 0)
+    unfolding openedWith openedSession
+    open-counts = (ap (λ s. s .accepted) opened, ap (λ s. s .corrections) opened)
+
+-- three floats for each back point, the oldest point first
+pub opening-sample : (r : Request) (k : Coordinate) (i : ℕ) (d : Float) → i < r .points → length (r .floats) ≡ 3 * r .points →
+    at (openingSamples r k) i ≡ ticksIn (roundedOf (getD (r .floats) (3 * (r .points - 1 - i) + place k) d))
+opening-sample r k i d l e = at-samples (r .points) (place k) i (r .floats) d l (within k)
+  where
+    within : (k : Coordinate) → 3 * (r .points - 1 - i) + place k < length (r .floats)
+    within onX = omega arith
+    within onY = omega arith
+    within onZ = omega arith

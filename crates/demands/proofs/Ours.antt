@@ -1,0 +1,100 @@
+-- Our four definitions meet the demands.
+use mathlib.Core.Path.{_≡_, sym, ap, _∙_, subst}
+use mathlib.Core.Bool.{Bool, true, false}
+use Rattle.ticks.specs.declared.Sample.{Sample}
+use Rattle.ticks.specs.Samples.{wholeOf}
+use Rattle.session.specs.declared.Session.{Session}
+use Rattle.session.specs.Moves.{correctedPoint}
+use Rattle.steps.specs.Refusals.{predictRefusal, agrees, correctRefusal, withdrawRefusal}
+use Rattle.steps.specs.Steps.{openBy, openOf, predictBy, predictOf, judged, correctBy, correctOf, withdrawBy, withdrawOf}
+use Rattle.steps.proofs.Answers.{predict-answers, correct-answers, withdraw-answers}
+use Rattle.steps.proofs.Left.{open-closes, open-leaves, predict-untouched, correct-untouched, correct-ends, withdraw-untouched}
+use Rattle.demands.specs.Histories.{Request, ours}
+use Rattle.demands.specs.Refusals.{Exactly, Unrefused, openTable, predictTable, correctTable, withdrawTable}
+use Rattle.demands.specs.Demands.{predictNumber, correctNumber, withdrawNumber, Demand1, Demand2, Formulas, Demand3, Counts, Leaves}
+use Rattle.demands.proofs.Tables.{agreement, open-table, predict-table, correct-table, withdraw-table}
+use Rattle.demands.proofs.Opens.{refusal, number-is, open-begins, open-counts}
+use Rattle.demands.proofs.Invariant.{leaves, holds-after, invariant, open-begins-itself, originOf}
+use Rattle.demands.proofs.Cowell.{unsummed, last}
+use Rattle.demands.proofs.Alike.{same-point}
+
+-- ---- the numbers that are answered
+
+pub predict-number : (s : Session) → predictNumber ours s ≡ predictRefusal s
+predict-number s = ap (λ a. a .number) (predict-answers s)
+
+pub correct-number : (s : Session) (a : Sample) → correctNumber ours s a ≡ correctRefusal s a
+correct-number s a = ap (λ a. a .number) (correct-answers s a)
+
+pub withdraw-number : (s : Session) → withdrawNumber ours s ≡ withdrawRefusal s
+withdraw-number s = ap (λ a. a .number) (withdraw-answers s)
+
+pub demand1 : Demand1 ours
+demand1 =
+    record {
+      opens = λ r. subst (Exactly (openTable r)) (sym (number-is r)) (open-table r);
+      predicts = λ s. subst (Exactly (predictTable s)) (sym (predict-number s)) (predict-table s);
+      corrects = λ s a. subst (Exactly (correctTable s a)) (sym (correct-number s a)) (correct-table s a);
+      withdraws = λ s. subst (Exactly (withdrawTable s)) (sym (withdraw-number s)) (withdraw-table s);
+      closed = λ r f. open-closes (r .points) (r .tolerance) (r .limit) (r .start) (r .floats) (λ e. f (number-is r ∙ e));
+      unpredicted = λ s f. predict-untouched s (λ e. f (predict-number s ∙ e));
+      settled = λ s a e. correct-ends s a (sym (correct-number s a) ∙ e);
+      uncorrected = λ s a f g. correct-untouched s a (λ e. f (correct-number s a ∙ e)) (λ e. g (correct-number s a ∙ e));
+      unwithdrawn = λ s f. withdraw-untouched s (λ e. f (withdraw-number s ∙ e));
+    }
+
+-- ---- where no rule applies, no number is given
+
+unrefused-open : (r : Request) → Unrefused (openTable r) → refusal r ≡ 0
+unrefused-open r u = let (_, (_, (_, (_, (_, (_, none)))))) = open-table r in none .1 u
+
+unrefused-predict : (s : Session) → Unrefused (predictTable s) → predictRefusal s ≡ 0
+unrefused-predict s u = let (_, (_, (_, none))) = predict-table s in none .1 u
+
+unrefused-correct : (s : Session) (a : Sample) → Unrefused (correctTable s a) → correctRefusal s a ≡ 0
+unrefused-correct s a u = let (_, (_, (_, (_, (_, none))))) = correct-table s a in none .1 u
+
+unrefused-withdraw : (s : Session) → Unrefused (withdrawTable s) → withdrawRefusal s ≡ 0
+unrefused-withdraw s u = let (_, none) = withdraw-table s in none .1 u
+
+judge : (s : Session) (a : Sample) (b : Bool) → Unrefused (correctTable s a) → agrees s (correctedPoint s (wholeOf a)) ≡ b → correctOf s a ≡ judged b s (wholeOf a) (correctedPoint s (wholeOf a))
+unfolding correctOf
+judge s a b u f = ap (λ n. correctBy n s (wholeOf a)) (unrefused-correct s a u) ∙ ap (λ t. judged t s (wholeOf a) (correctedPoint s (wholeOf a))) f
+
+pub demand2 : Demand2 ours
+unfolding openOf predictOf withdrawOf
+demand2 =
+    record {
+      opens = λ r u. ap (λ n. openBy n (r .points) (r .tolerance) (r .limit) (r .start) (r .floats)) (unrefused-open r u);
+      predicts = λ s u. ap (λ n. predictBy n s) (unrefused-predict s u);
+      accepts = λ s a u w. judge s a true u (agreement s (correctedPoint s (wholeOf a)) .yes .1 w);
+      repeats = λ s a u w. judge s a false u (agreement s (correctedPoint s (wholeOf a)) .no .1 w);
+      withdraws = λ s u. ap (λ n. withdrawBy n s) (unrefused-withdraw s u);
+    }
+
+-- ---- histories
+
+pub formulas : Formulas ours
+formulas = record { told = λ o s b calls. invariant o s b calls .told }
+
+pub demand3 : Demand3 ours
+demand3 = record { begins = open-begins; unsummed = unsummed; same = same-point }
+
+pub counts : Counts ours
+counts =
+    record {
+      opened = open-counts;
+      accepted = λ s h calls. invariant (originOf s) s (open-begins-itself s h) calls .accepted;
+      awaiting = λ s h calls. invariant (originOf s) s (open-begins-itself s h) calls .waiting;
+      settled = λ s h calls. invariant (originOf s) s (open-begins-itself s h) calls .resting;
+    }
+
+pub leave : Leaves ours
+leave =
+    record {
+      opens = λ r. open-leaves (r .points) (r .tolerance) (r .limit) (r .start) (r .floats);
+      steps = leaves;
+      held = holds-after;
+      stands = λ o s b calls. invariant o s b calls .stands;
+      last = last;
+    }

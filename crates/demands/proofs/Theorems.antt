@@ -1,0 +1,30 @@
+-- What is proved, collected.
+use Rattle.demands.specs.Theorems.{OurCalls, AnyCalls, TurnedDown}
+use Rattle.demands.proofs.Ours.{demand1, demand2, formulas, demand3, counts, leave}
+use Rattle.demands.proofs.Cowell.{in-ticks}
+use Rattle.demands.proofs.Alike.{same-next}
+use Rattle.demands.proofs.Opens.{opening-sample}
+use Rattle.demands.proofs.Openings.{anew, of-openings, closed, unopened}
+use Rattle.demands.proofs.Unique as U
+use Rattle.demands.proofs.TurnedDown as T
+
+pub our-calls : OurCalls
+our-calls =
+    record {
+      demand1 = demand1;
+      demand2 = demand2;
+      formulas = formulas;
+      demand3 = demand3;
+      counts = counts;
+      leaves = leave;
+      inTicks = in-ticks;
+      sameNext = λ o s t b d m calls others e f g. same-next o s t b d calls others e m f g;
+      closed = closed;
+      unopened = unopened;
+    }
+
+pub any-calls : AnyCalls
+any-calls = record { anew = anew; openings = of-openings; openingSample = opening-sample; unique = U.unique }
+
+pub turned-down : TurnedDown
+turned-down = T.turned-down

@@ -1,0 +1,146 @@
+-- Demands 1 and 2 leave no choice: they settle the answer and the record of every call on every input.
+use mathlib.Core.Path.{_≡_, refl, sym, ap, _∙_}
+use mathlib.Core.Logic.{inl, inr}
+use mathlib.Core.Bool.{Bool, true, false, cond}
+use mathlib.Core.List.{List, [], _∷_, _++_}
+use Prim.Native.Nat.{ℕ, zero, suc}
+use native.Mathlib.Omega.{arith}
+use native.Mathlib.Nat.{suc-ne-zero}
+use lib.Dec.{eqb}
+use borrow.Author.Tests.{eqb-true, eqb-false}
+use Rattle.ticks.specs.declared.Sample.{Sample}
+use Rattle.ticks.specs.Samples.{wholeOf}
+use Rattle.session.specs.declared.Session.{Session}
+use Rattle.session.specs.Moves.{correctedPoint, settledAgain, closedSession}
+use Rattle.steps.specs.declared.Opening.{Opening}
+use Rattle.steps.specs.declared.Prediction.{Prediction}
+use Rattle.steps.specs.declared.Correction.{Correction}
+use Rattle.steps.specs.declared.Withdrawal.{Withdrawal}
+use Rattle.steps.specs.declared.Opening.the-variants as O
+use Rattle.steps.specs.declared.Prediction.the-variants as P
+use Rattle.steps.specs.declared.Correction.the-variants as C
+use Rattle.steps.specs.declared.Withdrawal.the-variants as W
+use Rattle.steps.specs.Answers.{openingAnswer, predictionAnswer, correctionAnswer, withdrawalAnswer, NotZero}
+use Rattle.steps.specs.Refusals.{predictRefusal, agrees, correctRefusal, withdrawRefusal}
+use Rattle.steps.proofs.Rules.{Among}
+use Rattle.steps.proofs.Refusals.{open-numbers, predict-numbers, correct-numbers, withdraw-numbers}
+use Rattle.demands.specs.Histories.{Request, Implementation}
+use Rattle.demands.specs.Refusals.{Rule, Continues, Exactly, Unrefused, openTable, predictTable, correctTable, withdrawTable}
+use Rattle.demands.specs.Demands.{openNumber, predictNumber, correctNumber, withdrawNumber, Demand1, Demand2, Agree}
+use Rattle.demands.proofs.Tables.{agreement, open-table, predict-table, correct-table, withdraw-table}
+use Rattle.demands.proofs.Opens.{refusal}
+
+-- ---- a table gives one number
+
+abbrev numbersOf : List Rule → List ℕ
+numbersOf [] = []
+numbersOf (r ∷ rs) = r .number ∷ numbersOf rs
+
+at-rule : (before rs : List Rule) (m n : ℕ) → Among n (numbersOf rs) → Continues before rs n → Continues before rs m → m ≡ n
+at-rule before [] m n h c d = absurd h
+at-rule before (r ∷ rs) m n (inl e) c d = d .0 .1 (c .0 .0 e) ∙ sym e
+at-rule before (r ∷ rs) m n (inr h) c d = at-rule (before ++ r ∷ []) rs m n h (c .1) (d .1)
+
+at-none : (before rs : List Rule) (m n : ℕ) → n ≡ 0 → Continues before rs n → Continues before rs m → m ≡ n
+at-none before [] m n e c d = d .1 (c .0 e) ∙ sym e
+at-none before (r ∷ rs) m n e c d = at-none (before ++ r ∷ []) rs m n e (c .1) (d .1)
+
+one-number : (rs : List Rule) (m n : ℕ) → Among n (0 ∷ numbersOf rs) → Exactly rs n → Exactly rs m → m ≡ n
+one-number rs m n (inl e) c d = at-none [] rs m n e c d
+one-number rs m n (inr h) c d = at-rule [] rs m n h c d
+
+-- ---- a refusal's number is its answer
+
+opening-refused : (a : Opening) (n : ℕ) → openingAnswer a .number ≡ suc n → a ≡ O.Refused (suc n)
+opening-refused O.Opened n e = absurd (omega arith)
+opening-refused (O.Refused m) n e = ap O.Refused e
+
+prediction-refused : (a : Prediction) (n : ℕ) → predictionAnswer a .number ≡ suc n → a ≡ P.Refused (suc n)
+prediction-refused (P.Predicted q) n e = absurd (omega arith)
+prediction-refused (P.Refused m) n e = ap P.Refused e
+
+correction-refused : (a : Correction) (n : ℕ) → correctionAnswer a .number ≡ suc n → a ≡ C.Refused (suc n)
+correction-refused (C.Accepted q) n e = absurd (omega arith)
+correction-refused (C.Again q c) n e = absurd (omega arith)
+correction-refused (C.Refused m) n e = ap C.Refused e
+
+withdrawal-refused : (a : Withdrawal) (n : ℕ) → withdrawalAnswer a .number ≡ suc n → a ≡ W.Refused (suc n)
+withdrawal-refused W.Withdrawn n e = absurd (omega arith)
+withdrawal-refused (W.Refused m) n e = ap W.Refused e
+
+-- a number that is given
+given : {m n : ℕ} → m ≡ suc n → NotZero m
+given e z = suc-ne-zero _ (sym e ∙ z)
+
+-- ---- the number is the table's, and where it is 0 no rule applies
+
+module _ (I : Implementation) (d : Demand1 I) where
+  opening-number : (r : Request) → openNumber I r ≡ refusal r
+  opening-number r = one-number (openTable r) (openNumber I r) (refusal r) (open-numbers (r .points) (r .tolerance) (r .limit) (r .start) (r .floats)) (open-table r) (d .opens r)
+
+  prediction-number : (s : Session) → predictNumber I s ≡ predictRefusal s
+  prediction-number s = one-number (predictTable s) (predictNumber I s) (predictRefusal s) (predict-numbers s) (predict-table s) (d .predicts s)
+
+  correction-number : (s : Session) (a : Sample) → correctNumber I s a ≡ correctRefusal s a
+  correction-number s a = one-number (correctTable s a) (correctNumber I s a) (correctRefusal s a) (correct-numbers s a) (correct-table s a) (d .corrects s a)
+
+  withdrawal-number : (s : Session) → withdrawNumber I s ≡ withdrawRefusal s
+  withdrawal-number s = one-number (withdrawTable s) (withdrawNumber I s) (withdrawRefusal s) (withdraw-numbers s) (withdraw-table s) (d .withdraws s)
+
+  -- what a refusal of the table's number n + 1 leaves and answers
+  refused-opening : (r : Request) (n : ℕ) → refusal r ≡ suc n → I .opens r ≡ record { session = closedSession; answer = O.Refused (suc n) }
+  refused-opening r n h =
+      let m = opening-number r ∙ h in
+      λ i. record { session = d .closed r (given m) i; answer = opening-refused (I .opens r .answer) n m i }
+
+  refused-prediction : (s : Session) (n : ℕ) → predictRefusal s ≡ suc n → I .predicts s ≡ record { session = s; answer = P.Refused (suc n) }
+  refused-prediction s n h =
+      let m = prediction-number s ∙ h in
+      λ i. record { session = d .unpredicted s (given m) i; answer = prediction-refused (I .predicts s .answer) n m i }
+
+  refused-withdrawal : (s : Session) (n : ℕ) → withdrawRefusal s ≡ suc n → I .withdraws s ≡ record { session = s; answer = W.Refused (suc n) }
+  refused-withdrawal s n h =
+      let m = withdrawal-number s ∙ h in
+      λ i. record { session = d .unwithdrawn s (given m) i; answer = withdrawal-refused (I .withdraws s .answer) n m i }
+
+  refused-correction : (s : Session) (a : Sample) (n : ℕ) → correctRefusal s a ≡ suc n → I .corrects s a ≡ record { session = cond (eqb (suc n) 8) (settledAgain s) s; answer = C.Refused (suc n) }
+  refused-correction s a n h = λ i. record { session = left (eqb (suc n) 8) refl i; answer = correction-refused (I .corrects s a .answer) n m i }
+    where
+      m : correctNumber I s a ≡ suc n
+      m = correction-number s a ∙ h
+
+      left : (t : Bool) → eqb (suc n) 8 ≡ t → I .corrects s a .session ≡ cond t (settledAgain s) s
+      left true e = d .settled s a (m ∙ eqb-true (suc n) 8 e)
+      left false e = d .uncorrected s a (given m) (λ f. eqb-false (suc n) 8 e (sym m ∙ f))
+
+-- ---- two implementations
+
+module _ (I J : Implementation) (d : Demand1 I) (e : Demand2 I) (f : Demand1 J) (g : Demand2 J) where
+  same-opening : (r : Request) (n : ℕ) → refusal r ≡ n → I .opens r ≡ J .opens r
+  same-opening r zero h = let (_, (_, (_, (_, (_, (_, none)))))) = open-table r in e .opens r (none .0 h) ∙ sym (g .opens r (none .0 h))
+  same-opening r (suc n) h = refused-opening I d r n h ∙ sym (refused-opening J f r n h)
+
+  same-prediction : (s : Session) (n : ℕ) → predictRefusal s ≡ n → I .predicts s ≡ J .predicts s
+  same-prediction s zero h = let (_, (_, (_, none))) = predict-table s in e .predicts s (none .0 h) ∙ sym (g .predicts s (none .0 h))
+  same-prediction s (suc n) h = refused-prediction I d s n h ∙ sym (refused-prediction J f s n h)
+
+  same-judgement : (s : Session) (a : Sample) → Unrefused (correctTable s a) → (t : Bool) → agrees s (correctedPoint s (wholeOf a)) ≡ t → I .corrects s a ≡ J .corrects s a
+  same-judgement s a u true h = let w = agreement s (correctedPoint s (wholeOf a)) .yes .0 h in e .accepts s a u w ∙ sym (g .accepts s a u w)
+  same-judgement s a u false h = let w = agreement s (correctedPoint s (wholeOf a)) .no .0 h in e .repeats s a u w ∙ sym (g .repeats s a u w)
+
+  same-correction : (s : Session) (a : Sample) (n : ℕ) → correctRefusal s a ≡ n → I .corrects s a ≡ J .corrects s a
+  same-correction s a zero h = let (_, (_, (_, (_, (_, none))))) = correct-table s a in same-judgement s a (none .0 h) (agrees s (correctedPoint s (wholeOf a))) refl
+  same-correction s a (suc n) h = refused-correction I d s a n h ∙ sym (refused-correction J f s a n h)
+
+  same-withdrawal : (s : Session) (n : ℕ) → withdrawRefusal s ≡ n → I .withdraws s ≡ J .withdraws s
+  same-withdrawal s zero h = let (_, none) = withdraw-table s in e .withdraws s (none .0 h) ∙ sym (g .withdraws s (none .0 h))
+  same-withdrawal s (suc n) h = refused-withdrawal I d s n h ∙ sym (refused-withdrawal J f s n h)
+
+  pub unique : Agree I J
+  unique =
+      record {
+        opens = λ r. same-opening r (refusal r) refl;
+        predicts = λ s. same-prediction s (predictRefusal s) refl;
+        corrects = λ s a. same-correction s a (correctRefusal s a) refl;
+        withdraws = λ s. same-withdrawal s (withdrawRefusal s) refl;
+      }

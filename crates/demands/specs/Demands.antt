@@ -1,0 +1,170 @@
+-- The three demands of the order, and the counts, of any implementation of the four calls. Definitions only.
+use mathlib.Core.Path.{_≡_}
+use mathlib.Core.Bool.{true}
+use mathlib.Core.Logic.{_⊎_}
+use mathlib.Core.List.{List, [], _∷_}
+use Prim.Native.Nat.{ℕ, _+_, _-_, _≤_}
+use lib.IntN.{ℤ, pos, _+ℤ_, _-ℤ_, _*ℤ_}
+use lib.ListN.{length}
+use Rattle.integers.specs.Differences.{inFront, byDifferences}
+use Rattle.exact.specs.Numerator.{D}
+use Rattle.coefficients.specs.Fraction.{_over_, _≐_}
+use Rattle.coefficients.specs.Rules.{c, l}
+use Rattle.coefficients.specs.Formulas.{unsummedCowell, adamsMoulton, series}
+use Rattle.ticks.specs.declared.Sample.{Sample}
+use Rattle.ticks.specs.Samples.{wholeOf}
+use Rattle.session.specs.declared.Session.{Session}
+use Rattle.session.specs.declared.State.the-variants.{Settled, Awaiting}
+use Rattle.session.specs.Moves.{presentPoint, predictedPoint, correctedPoint, settledAgain, awaitingAt, acceptedAt, closedSession}
+use Rattle.session.specs.Holding.{holds}
+use Rattle.steps.specs.declared.ReportedPoint.{ReportedPoint}
+use Rattle.steps.specs.declared.Opening.the-variants as O
+use Rattle.steps.specs.declared.Prediction.the-variants as P
+use Rattle.steps.specs.declared.Correction.the-variants as C
+use Rattle.steps.specs.declared.Withdrawal.the-variants as W
+use Rattle.steps.specs.Answers.{reportedPoint, reportedChange, openingAnswer, predictionAnswer, correctionAnswer, withdrawalAnswer, NotZero}
+use Rattle.steps.specs.Opening.{wholePoint, openedWith}
+use Rattle.steps.specs.Refusals.{largestChange}
+use Rattle.demands.specs.Coordinates.{Coordinate, positionOf, velocityOf, positionIn, velocityIn}
+use Rattle.demands.specs.Histories.{Request, Implementation, Call, after, history, step, Entry, entries, samplesOf, agains}
+use Rattle.demands.specs.Refusals.{Exactly, Unrefused, Within, openTable, predictTable, correctTable, withdrawTable}
+use Rattle.demands.specs.ClosedForm.{Origin, Begins, origin, samples, Stands, Told}
+
+-- ---- demand 1: exactly when each call is refused, and what a refusal leaves
+
+-- the paper's number of an answer; an answer with a number has nothing else (`steps`, Answers)
+module _ (I : Implementation) where
+  abbrev pub openNumber : Request → ℕ
+  openNumber r = openingAnswer (I .opens r .answer) .number
+
+  abbrev pub predictNumber : Session → ℕ
+  predictNumber s = predictionAnswer (I .predicts s .answer) .number
+
+  abbrev pub correctNumber : Session → Sample → ℕ
+  correctNumber s a = correctionAnswer (I .corrects s a .answer) .number
+
+  abbrev pub withdrawNumber : Session → ℕ
+  withdrawNumber s = withdrawalAnswer (I .withdraws s .answer) .number
+
+pub record Demand1 (I : Implementation) : Type 0 where
+  -- every answer carries the number of the first rule of its table that applies, and 0 where none does
+  pub opens : (r : Request) → Exactly (openTable r) (openNumber I r)
+  pub predicts : (s : Session) → Exactly (predictTable s) (predictNumber I s)
+  pub corrects : (s : Session) (a : Sample) → Exactly (correctTable s a) (correctNumber I s a)
+  pub withdraws : (s : Session) → Exactly (withdrawTable s) (withdrawNumber I s)
+  -- a refused open leaves the record closed and zero, 8 leaves it settled at the point before, every other refusal leaves it as it was
+  pub closed : (r : Request) → NotZero (openNumber I r) → I .opens r .session ≡ closedSession
+  pub unpredicted : (s : Session) → NotZero (predictNumber I s) → I .predicts s .session ≡ s
+  pub settled : (s : Session) (a : Sample) → correctNumber I s a ≡ 8 → I .corrects s a .session ≡ settledAgain s
+  pub uncorrected : (s : Session) (a : Sample) → NotZero (correctNumber I s a) → ¬ (correctNumber I s a ≡ 8) → I .corrects s a .session ≡ s
+  pub unwithdrawn : (s : Session) → NotZero (withdrawNumber I s) → I .withdraws s .session ≡ s
+
+-- ---- demand 2: a call that no rule refuses gives the formulas' values and takes the formulas' step
+
+pub record Demand2 (I : Implementation) : Type 0 where
+  -- the record asked for, and an answer without values
+  pub opens : (r : Request) → Unrefused (openTable r) →
+      I .opens r ≡ record { session = openedWith (r .points) (r .tolerance) (r .limit) (wholePoint (r .start)) (r .floats); answer = O.Opened }
+  -- the predicted point, which the record awaits
+  pub predicts : (s : Session) → Unrefused (predictTable s) →
+      I .predicts s ≡ record { session = awaitingAt s 0 (predictedPoint s); answer = P.Predicted (reportedPoint (predictedPoint s)) }
+  -- the corrected point: accepted where every axis is within the tolerance
+  pub accepts : (s : Session) (a : Sample) → Unrefused (correctTable s a) → Within s (correctedPoint s (wholeOf a)) →
+      I .corrects s a ≡ record { session = acceptedAt s (wholeOf a); answer = C.Accepted (reportedPoint (correctedPoint s (wholeOf a))) }
+  -- and else the new estimate, with one correction more and the largest change
+  pub repeats : (s : Session) (a : Sample) → Unrefused (correctTable s a) → ¬ Within s (correctedPoint s (wholeOf a)) →
+      let q = correctedPoint s (wholeOf a) in
+      I .corrects s a ≡ record { session = awaitingAt s (s .corrections + 1) q; answer = C.Again (reportedPoint q) (reportedChange (largestChange s q)) }
+  -- the record without its estimate
+  pub withdraws : (s : Session) → Unrefused (withdrawTable s) → I .withdraws s ≡ record { session = settledAgain s; answer = W.Withdrawn }
+
+-- the same over histories: each prediction and correction that was answered is what the formulas give for the samples accepted since the opening
+pub record Formulas (I : Implementation) : Type 0 where
+  pub told : (o : Origin) (s : Session) → Begins o s → (calls : List Call) → Told o (history I s calls)
+
+-- ---- demand 3: the points of the answers keep to the unsummed formulas, and are those of the accepted samples alone
+
+module _ (o : Origin) (k : Coordinate) where
+  -- exact positions and velocities of the answers, newest first; where they end, the opening point's
+  abbrev pub positions : List Entry → ℕ → ℤ
+  positions [] = λ i. o .position k
+  positions (e ∷ es) = inFront (positionIn k (e .point)) (positions es)
+
+  abbrev pub velocities : List Entry → ℕ → ℤ
+  velocities [] = λ i. o .velocity k
+  velocities (e ∷ es) = inFront (velocityIn k (e .point)) (velocities es)
+
+  -- with N points accepted: position(n) and velocity(n), for n = 0, the opening point, to N, and a(n), a(n-1), .., the opening's from a(0) on
+  abbrev pub position : List Entry → ℕ → ℤ
+  position es n = positions es (length es - n)
+
+  abbrev pub velocity : List Entry → ℕ → ℤ
+  velocity es n = velocities es (length es - n)
+
+  abbrev pub sample : List Entry → ℕ → ℕ → ℤ
+  sample es n i = samples o k (samplesOf es) (length es - n + i)
+
+  -- position(n) - 2 position(n-1) + position(n-2), and velocity(n) - velocity(n-1)
+  abbrev pub secondDifference : List Entry → ℕ → ℤ
+  secondDifference es n = position es n -ℤ pos 2 *ℤ position es (n - 1) +ℤ position es (n - 2)
+
+  abbrev pub firstDifference : List Entry → ℕ → ℤ
+  firstDifference es n = velocity es n -ℤ velocity es (n - 1)
+
+pub record Unsummed (o : Origin) (es : List Entry) : Type 0 where
+  -- for n ≥ 2: the sum over i = 0..p+1 of D l(i) B^i a(n)
+  pub cowell : (k : Coordinate) (n : ℕ) → 2 ≤ n → n ≤ length es → secondDifference o k es n ≡ byDifferences (unsummedCowell (o .points)) (sample o k es n)
+  -- for n ≥ 1: the sum over i = 0..p of D c(i) B^i a(n)
+  pub adams : (k : Coordinate) (n : ℕ) → 1 ≤ n → n ≤ length es → firstDifference o k es n ≡ byDifferences (adamsMoulton (o .points)) (sample o k es n)
+
+-- the same in ticks, as fractions: l(i) and c(i) are those of the rules
+pub record UnsummedInTicks (o : Origin) (es : List Entry) : Type 0 where
+  pub cowell : (k : Coordinate) (n : ℕ) → 2 ≤ n → n ≤ length es → secondDifference o k es n over D ≐ series l 0 (o .points + 2) (sample o k es n)
+  pub adams : (k : Coordinate) (n : ℕ) → 1 ≤ n → n ≤ length es → firstDifference o k es n over D ≐ series c 0 (o .points + 1) (sample o k es n)
+
+-- the same exact position and velocity, and the same next prediction where neither refuses it
+pub record SamePoint (I : Implementation) (s t : Session) : Type 0 where
+  pub present : presentPoint s ≡ presentPoint t
+  pub next : (q r : ReportedPoint) → I .predicts s .answer ≡ P.Predicted q → I .predicts t .answer ≡ P.Predicted r → q ≡ r
+
+pub record Demand3 (I : Implementation) : Type 0 where
+  -- a successful open leaves a record that begins where it was asked to
+  pub begins : (r : Request) → I .opens r .answer ≡ O.Opened → Begins (origin r) (I .opens r .session)
+  -- however the record began, and whatever was called since
+  pub unsummed : (o : Origin) (s : Session) → Begins o s → (calls : List Call) → Unsummed o (entries (history I s calls))
+  -- two records that began alike and accepted the same samples
+  pub same : (o : Origin) (s t : Session) → Begins o s → Begins o t → (calls others : List Call) →
+      samplesOf (entries (history I s calls)) ≡ samplesOf (entries (history I t others)) → SamePoint I (after I s calls) (after I t others)
+
+-- ---- the counts that a record holds are those of the history of answers
+
+pub record Counts (I : Implementation) : Type 0 where
+  -- both begin at 0
+  pub opened : (r : Request) → I .opens r .answer ≡ O.Opened → (I .opens r .session .accepted ≡ 0) × (I .opens r .session .corrections ≡ 0)
+  -- one more for each answer *accepted*
+  pub accepted : (s : Session) → holds s ≡ true → (calls : List Call) → after I s calls .accepted ≡ s .accepted + length (entries (history I s calls))
+  -- while a correction is awaited, the answers *again* since the last prediction; else none
+  pub awaiting : (s : Session) → holds s ≡ true → (calls : List Call) → after I s calls .state ≡ Awaiting →
+      after I s calls .corrections ≡ agains (s .corrections) (history I s calls)
+  pub settled : (s : Session) → holds s ≡ true → (calls : List Call) → after I s calls .state ≡ Settled → after I s calls .corrections ≡ 0
+
+-- ---- what any calls leave
+
+pub record Leaves (I : Implementation) : Type 0 where
+  -- an open leaves a record that is closed and zero, or open; another call leaves it untouched, or open
+  pub opens : (r : Request) → (I .opens r .session ≡ closedSession) ⊎ (holds (I .opens r .session) ≡ true)
+  pub steps : (s : Session) (call : Call) → (step I s call ≡ s) ⊎ (holds (step I s call) ≡ true)
+  -- an open record stays open; its sums and samples are those of its beginning and the accepted samples, and it stands at the last accepted point
+  pub held : (s : Session) → holds s ≡ true → (calls : List Call) → holds (after I s calls) ≡ true
+  pub stands : (o : Origin) (s : Session) → Begins o s → (calls : List Call) → Stands o (samplesOf (entries (history I s calls))) (after I s calls)
+  pub last : (o : Origin) (s : Session) → Begins o s → (calls : List Call) (k : Coordinate) →
+      let es = entries (history I s calls) in
+      (positionOf k (presentPoint (after I s calls)) ≡ position o k es (length es)) × (velocityOf k (presentPoint (after I s calls)) ≡ velocity o k es (length es))
+
+-- ---- two implementations that give the same record and answer on every input
+
+pub record Agree (I J : Implementation) : Type 0 where
+  pub opens : (r : Request) → I .opens r ≡ J .opens r
+  pub predicts : (s : Session) → I .predicts s ≡ J .predicts s
+  pub corrects : (s : Session) (a : Sample) → I .corrects s a ≡ J .corrects s a
+  pub withdraws : (s : Session) → I .withdraws s ≡ J .withdraws s

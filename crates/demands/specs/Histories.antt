@@ -1,0 +1,129 @@
+-- Implementations, calls, and what calls on a record bring about: the record afterwards, the answers, and the points that were accepted.
+-- Lists of calls, of events and of points have the latest first. Definitions only.
+use Prim.Native.Nat.{ℕ, suc}
+use mathlib.Core.List.{List, [], _∷_, map}
+use lib.Ieee.{Float}
+use Rattle.ticks.specs.declared.Sample.{Sample}
+use Rattle.ticks.specs.declared.WholeSample.{WholeSample}
+use Rattle.ticks.specs.Samples.{wholeOf}
+use Rattle.session.specs.declared.Session.{Session}
+use Rattle.steps.specs.declared.Start.{Start}
+use Rattle.steps.specs.declared.ReportedPoint.{ReportedPoint}
+use Rattle.steps.specs.declared.AfterOpen.{AfterOpen}
+use Rattle.steps.specs.declared.AfterPredict.{AfterPredict}
+use Rattle.steps.specs.declared.AfterCorrect.{AfterCorrect}
+use Rattle.steps.specs.declared.AfterWithdraw.{AfterWithdraw}
+use Rattle.steps.specs.declared.Prediction.{Prediction}
+use Rattle.steps.specs.declared.Correction.{Correction}
+use Rattle.steps.specs.declared.Withdrawal.{Withdrawal}
+use Rattle.steps.specs.declared.Prediction.the-variants as P
+use Rattle.steps.specs.declared.Correction.the-variants as C
+use Rattle.steps.specs.Steps.{openOf, predictOf, correctOf, withdrawOf}
+
+-- ---- implementations
+
+-- what `open` is given
+pub record Request : Type 0 where
+  pub points : ℕ
+  pub tolerance : ℕ
+  pub limit : ℕ
+  pub start : Start
+  pub floats : List Float
+
+-- the four calls, as functions of what they are given; an opening does not look at the record that it replaces
+pub record Implementation : Type 0 where
+  pub opens : Request → AfterOpen
+  pub predicts : Session → AfterPredict
+  pub corrects : Session → Sample → AfterCorrect
+  pub withdraws : Session → AfterWithdraw
+
+-- the definitions that our functions are proved to compute
+abbrev pub ours : Implementation
+ours =
+    record {
+      opens = λ r. openOf (r .points) (r .tolerance) (r .limit) (r .start) (r .floats);
+      predicts = predictOf;
+      corrects = correctOf;
+      withdraws = withdrawOf;
+    }
+
+-- ---- histories: any calls on a record up to its next opening. A call that is refused is a call.
+
+pub data Call : Type 0 where
+  predict : Call
+  correct : Sample → Call
+  withdraw : Call
+
+-- a call with its answer
+pub data Event : Type 0 where
+  predicting : Prediction → Event
+  correcting : Sample → Correction → Event
+  withdrawing : Withdrawal → Event
+
+-- the record that a call leaves, and the event
+abbrev pub step : Implementation → Session → Call → Session
+step I s predict = I .predicts s .session
+step I s (correct a) = I .corrects s a .session
+step I s withdraw = I .withdraws s .session
+
+abbrev pub event : Implementation → Session → Call → Event
+event I s predict = predicting (I .predicts s .answer)
+event I s (correct a) = correcting a (I .corrects s a .answer)
+event I s withdraw = withdrawing (I .withdraws s .answer)
+
+-- the record after calls, and the history of their answers
+abbrev pub after : Implementation → Session → List Call → Session
+after I s [] = s
+after I s (call ∷ calls) = step I (after I s calls) call
+
+abbrev pub history : Implementation → Session → List Call → List Event
+history I s [] = []
+history I s (call ∷ calls) = event I (after I s calls) call ∷ history I s calls
+
+-- openings among the calls
+pub data Act : Type 0 where
+  opening : Request → Act
+  calling : Call → Act
+
+abbrev pub lived : Implementation → Session → List Act → Session
+lived I s [] = s
+lived I s (opening r ∷ acts) = I .opens r .session
+lived I s (calling call ∷ acts) = step I (lived I s acts) call
+
+-- ---- what the answers of a history tell
+
+-- a point that was accepted: the rounded sample of that very call, and the point that its answer carried
+pub record Entry : Type 0 where
+  pub sample : WholeSample
+  pub point : ReportedPoint
+
+abbrev pub entered : Sample → Correction → List Entry → List Entry
+entered a (C.Accepted q) es = record { sample = wholeOf a; point = q } ∷ es
+entered a (C.Again q c) es = es
+entered a (C.Refused n) es = es
+
+-- the accepted points of a history
+abbrev pub entries : List Event → List Entry
+entries [] = []
+entries (predicting r ∷ es) = entries es
+entries (correcting a r ∷ es) = entered a r (entries es)
+entries (withdrawing r ∷ es) = entries es
+
+abbrev pub samplesOf : List Entry → List WholeSample
+samplesOf = map (λ e. e .sample)
+
+-- the answers *again* since the last prediction; n is what there were before the history
+abbrev pub restarted : Prediction → ℕ → ℕ
+restarted (P.Predicted q) n = 0
+restarted (P.Refused m) n = n
+
+abbrev pub counted : Correction → ℕ → ℕ
+counted (C.Accepted q) n = n
+counted (C.Again q c) n = suc n
+counted (C.Refused m) n = n
+
+abbrev pub agains : ℕ → List Event → ℕ
+agains n [] = n
+agains n (predicting r ∷ es) = restarted r (agains n es)
+agains n (correcting a r ∷ es) = counted r (agains n es)
+agains n (withdrawing r ∷ es) = agains n es

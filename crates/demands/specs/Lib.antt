@@ -1,0 +1,8 @@
+-- The demands of the order: first the words that they are said in, then the demands, the bad versions and what is proved.
+pub mod Coordinates
+pub mod Histories
+pub mod Refusals
+pub mod ClosedForm
+pub mod Demands
+pub mod BadVersions
+pub mod Theorems

@@ -1,0 +1,106 @@
+-- What is proved, as one record of statements: `proofs/Theorems.antt` has a proof of each.
+use mathlib.Core.Path.{_≡_}
+use mathlib.Core.Bool.{true, false}
+use mathlib.Core.List.{List, [], _∷_, _++_, map}
+use Prim.Native.Nat.{ℕ, _+_, _*_, _-_, _<_}
+use lib.Ieee.{Float}
+use lib.ListN.{length, getD}
+use Rattle.integers.specs.Differences.{at}
+use Rattle.ticks.specs.Round.{roundedOf, ticksIn}
+use Rattle.session.specs.declared.Session.{Session}
+use Rattle.session.specs.declared.State.the-variants.{Awaiting}
+use Rattle.session.specs.Moves.{closedSession}
+use Rattle.session.specs.Holding.{holds, settled}
+use Rattle.steps.specs.declared.Opening.the-variants as O
+use Rattle.steps.specs.declared.Prediction.the-variants as P
+use Rattle.steps.specs.declared.Correction.the-variants as C
+use Rattle.steps.specs.declared.Withdrawal.the-variants as W
+use Rattle.steps.specs.Answers.{NotZero}
+use Rattle.demands.specs.Coordinates.{Coordinate}
+use Rattle.demands.specs.Histories.{Request, Implementation, ours, Call, predict, correct, withdraw, Event, predicting, correcting, withdrawing, step, event, after, history, Act, opening, calling, lived, entries, samplesOf, agains}
+use Rattle.demands.specs.ClosedForm.{Origin, Begins, place, openingSamples, origin}
+use Rattle.demands.specs.Demands.{openNumber, Demand1, Demand2, Formulas, Unsummed, UnsummedInTicks, SamePoint, Demand3, Counts, Leaves, Agree}
+use Rattle.demands.specs.BadVersions.{refusing, predictingZero, unmoving, repeating, inventingPoints, inventingCorrections}
+
+-- opened alike: the same p, position, velocity and rounded opening samples; the tolerance and the limit may differ
+pub record Alike (q r : Request) : Type 0 where
+  pub points : q .points ≡ r .points
+  pub start : q .start ≡ r .start
+  pub samples : (k : Coordinate) → openingSamples q k ≡ openingSamples r k
+
+-- demand 3 and the counts as they read of a session that `open` opened
+pub record OfOpenings (I : Implementation) : Type 0 where
+  pub unsummed : (r : Request) → I .opens r .answer ≡ O.Opened → (calls : List Call) → Unsummed (origin r) (entries (history I (I .opens r .session) calls))
+  pub same : (q r : Request) → I .opens q .answer ≡ O.Opened → I .opens r .answer ≡ O.Opened → Alike q r → (calls others : List Call) →
+      samplesOf (entries (history I (I .opens q .session) calls)) ≡ samplesOf (entries (history I (I .opens r .session) others)) →
+      SamePoint I (after I (I .opens q .session) calls) (after I (I .opens r .session) others)
+  pub accepted : (r : Request) → I .opens r .answer ≡ O.Opened → (calls : List Call) →
+      after I (I .opens r .session) calls .accepted ≡ length (entries (history I (I .opens r .session) calls))
+  pub awaiting : (r : Request) → I .opens r .answer ≡ O.Opened → (calls : List Call) → after I (I .opens r .session) calls .state ≡ Awaiting →
+      after I (I .opens r .session) calls .corrections ≡ agains 0 (history I (I .opens r .session) calls)
+
+-- the answer 7 to a call
+abbrev pub refused7 : Call → Event
+refused7 predict = predicting (P.Refused 7)
+refused7 (correct a) = correcting a (C.Refused 7)
+refused7 withdraw = withdrawing (W.Refused 7)
+
+-- ---- our calls
+
+pub record OurCalls : Type 0 where
+  -- meet the demands
+  pub demand1 : Demand1 ours
+  pub demand2 : Demand2 ours
+  pub formulas : Formulas ours
+  pub demand3 : Demand3 ours
+  pub counts : Counts ours
+  pub leaves : Leaves ours
+  -- and in fractions of a tick
+  pub inTicks : (o : Origin) (s : Session) → Begins o s → (calls : List Call) → UnsummedInTicks o (entries (history ours s calls))
+  -- where two sessions that began alike are both settled, with as many points accepted, the next prediction is answered alike, also where it is refused
+  pub sameNext : (o : Origin) (s t : Session) → Begins o s → Begins o t → s .accepted ≡ t .accepted → (calls others : List Call) →
+      samplesOf (entries (history ours s calls)) ≡ samplesOf (entries (history ours t others)) →
+      settled (after ours s calls) ≡ true → settled (after ours t others) ≡ true →
+      ours .predicts (after ours s calls) .answer ≡ ours .predicts (after ours t others) .answer
+  -- a record that counts as closed is refused with 7 by every call but `open`, and untouched
+  pub closed : (s : Session) → holds s ≡ false → (call : Call) → (step ours s call ≡ s) × (event ours s call ≡ refused7 call)
+  -- after an `open` that was refused nothing is accepted, and the record stays closed and zero
+  pub unopened : (r : Request) → NotZero (openNumber ours r) → (calls : List Call) →
+      (after ours (ours .opens r .session) calls ≡ closedSession) × (entries (history ours (ours .opens r .session) calls) ≡ [])
+
+-- ---- any implementation
+
+pub record AnyCalls : Type 0 where
+  -- an `open` begins a history anew, whatever was done before
+  pub anew : (I : Implementation) (s : Session) (r : Request) (calls : List Call) (earlier : List Act) →
+      lived I s (map calling calls ++ opening r ∷ earlier) ≡ after I (I .opens r .session) calls
+  -- what was opened begins at its origin, so the demands hold of it
+  pub openings : (I : Implementation) → Demand3 I → Counts I → OfOpenings I
+  -- of 3p floats, three for each back point, the oldest point first, the sample of point -i on coordinate k is float 3(p-1-i) + k, rounded (d is never read)
+  pub openingSample : (r : Request) (k : Coordinate) (i : ℕ) (d : Float) → i < r .points → length (r .floats) ≡ 3 * r .points →
+      at (openingSamples r k) i ≡ ticksIn (roundedOf (getD (r .floats) (3 * (r .points - 1 - i) + place k) d))
+  -- demands 1 and 2 leave no choice
+  pub unique : (I J : Implementation) → Demand1 I → Demand2 I → Demand1 J → Demand2 J → Agree I J
+
+-- ---- the bad versions, each turned down by the demand that is named for it
+
+pub record TurnedDown : Type 0 where
+  -- refuses everything: demand 1's exact conditions, and demand 2
+  pub refusing1 : ¬ Demand1 refusing
+  pub refusing2 : ¬ Demand2 refusing
+  -- always predicts zero: demand 2, also over histories
+  pub predictingZero2 : ¬ Demand2 predictingZero
+  pub predictingZeroFormulas : ¬ Formulas predictingZero
+  -- never moves the session: demand 2
+  pub unmoving2 : ¬ Demand2 unmoving
+  -- steps truly once and then repeats: demand 2, demand 3, and demand 3 read over demand 2's formulas
+  pub repeating2 : ¬ Demand2 repeating
+  pub repeating3 : ¬ Demand3 repeating
+  pub repeatingFormulas : ¬ Formulas repeating
+  -- reports points or corrections that it made up: the counts, and that the record stands at the last point of the answers
+  pub inventingPointsCounts : ¬ Counts inventingPoints
+  pub inventingPointsLast : ¬ Leaves inventingPoints
+  pub inventingCorrectionsCounts : ¬ Counts inventingCorrections
+  -- no demand holds for another: what refuses everything meets demand 3, and what predicts zero meets demand 1
+  pub refusing3 : Demand3 refusing
+  pub predictingZero1 : Demand1 predictingZero

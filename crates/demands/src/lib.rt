@@ -1,0 +1,1 @@
+// Nothing runs here: the crate is its specs/, the demands on any implementation of the calls, and its proofs/.

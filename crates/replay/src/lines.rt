@@ -1,0 +1,214 @@
+// The lines of a piece of input, answered one after another.
+use crate::answering::answer_line;
+use session::Session;
+ghost use mathlib.Core.Path.{_≡_};
+ghost use Prim.Native.Nat.{_+_, _≤_};
+ghost use lib.ListN.{length};
+
+// How far a script is: the record, the lines so far, the bytes of input used, the bytes of output to be written, and whether the script is over.
+pub struct Progress {
+    pub session: Session,
+    pub count: u64,
+    pub used: usize,
+    pub written: usize,
+    pub over: bool,
+}
+
+// The place of the first newline from `from` on, and `end` where there is none before it.
+fn newline(input: &[u8], from: usize, end: usize) -> usize
+    requires { ⌜ from ≤ end ⌝ }
+    requires { ⌜ end ≤ length (now input) ⌝ }
+    ensures { λ r. ⌜ from ≤ r ⌝ }
+    ensures { λ r. ⌜ r ≤ end ⌝ }
+{
+    let mut i = from;
+    while i < end {
+        if input[i] == 10 {
+            return i;
+        }
+        i += 1;
+    }
+    end
+}
+
+// Writes the first bytes of the output: whether they were taken.
+pub fn write_out(out: &[u8], written: usize) -> bool
+    requires { ⌜ written ≤ length (now out) ⌝ }
+{
+    io::write_all(libc::STDOUT_FILENO, &out[..written])
+}
+
+// Output with room for an answer: what it holds is written where it leaves none.
+fn make_room(out: &[u8], written: usize) -> Room
+    requires { ⌜ written ≤ length (now out) ⌝ }
+    requires { ⌜ 4096 ≤ length (now out) ⌝ }
+    ensures { λ r. ⌜ r .at + 4096 ≤ length (now (out .entry)) ⌝ }
+{
+    if written + 4096 <= out.len() {
+        return Room {
+            at: written,
+            taken: true,
+        };
+    }
+    let taken = write_out(out, written);
+    Room { at: 0, taken }
+}
+
+struct Room {
+    at: usize,
+    taken: bool,
+}
+
+// A script that ends here, at a line that is no call.
+fn stop(out: &mut [u8], at: usize, s: Session, count: u64, used: usize) -> Progress
+    requires { ⌜ at + 40 ≤ length (now out) ⌝ }
+    ensures { λ r. ⌜ r .written ≤ length (now (out .entry)) ⌝ }
+    ensures { λ r. ⌜ r .used ≡ used ⌝ }
+{
+    let written = script::put_no_call(out, at, count);
+    Progress {
+        session: s,
+        count,
+        used,
+        written,
+        over: true,
+    }
+}
+
+// One line, which ends before `next`.
+fn take_line(out: &mut [u8], p: Progress, line: &[u8], next: usize) -> Progress
+    requires { ⌜ p .written ≤ length (now out) ⌝ }
+    requires { ⌜ 4096 ≤ length (now out) ⌝ }
+    ensures { λ r. ⌜ r .written ≤ length (now (out .entry)) ⌝ }
+    ensures { λ r. ⌜ r .used ≡ next ⌝ }
+{
+    let room = make_room(out, p.written);
+    let s = p.session;
+    let count = std::num::wrapping_add_u64(p.count, 1);
+    if !room.taken {
+        return Progress {
+            session: s,
+            count,
+            used: next,
+            written: 0,
+            over: true,
+        };
+    }
+    let answered = answer_line(out, room.at, s, line);
+    if !answered.call {
+        return stop(out, room.at, s, count, next);
+    }
+    let session = answered.session;
+    Progress {
+        session,
+        count,
+        used: next,
+        written: answered.end,
+        over: false,
+    }
+}
+
+// Every whole line of the first `end` bytes.
+fn answer_lines(input: &[u8], end: usize, out: &mut [u8], s: Session, count: u64) -> Progress
+    requires { ⌜ end ≤ length (now input) ⌝ }
+    requires { ⌜ 4096 ≤ length (now out) ⌝ }
+    ensures { λ r. ⌜ r .written ≤ length (now (out .entry)) ⌝ }
+    ensures { λ r. ⌜ r .used ≤ end ⌝ }
+{
+    let mut p = Progress {
+        session: s,
+        count,
+        used: 0,
+        written: 0,
+        over: false,
+    };
+    let mut from: usize = 0;
+    while from < end {
+        let stop = newline(input, from, end);
+        if stop == end {
+            break;
+        }
+        p = take_line(out, p, &input[from..stop], stop + 1);
+        if p.over {
+            break;
+        }
+        from = stop + 1;
+    }
+    p
+}
+
+// The bytes after the last newline are no call where the input is over or they are too many.
+fn finish(out: &mut [u8], p: Progress, got: usize, end: usize) -> Progress
+    requires { ⌜ p .used ≤ end ⌝ }
+    requires { ⌜ p .written ≤ length (now out) ⌝ }
+    requires { ⌜ 4096 ≤ length (now out) ⌝ }
+    ensures { λ r. ⌜ r .written ≤ length (now (out .entry)) ⌝ }
+    ensures { λ r. ⌜ r .used ≤ end ⌝ }
+{
+    if p.over {
+        return p;
+    }
+    let rest = end - p.used;
+    if rest == 0 {
+        if got == 0 {
+            return over(p);
+        }
+        return p;
+    }
+    if got == 0 {
+        return no_line(out, p);
+    }
+    if 4096 < rest {
+        return no_line(out, p);
+    }
+    p
+}
+
+fn over(p: Progress) -> Progress
+    ensures { λ r. ⌜ r .written ≡ p .written ⌝ }
+    ensures { λ r. ⌜ r .used ≡ p .used ⌝ }
+{
+    let session = p.session;
+    Progress {
+        session,
+        count: p.count,
+        used: p.used,
+        written: p.written,
+        over: true,
+    }
+}
+
+fn no_line(out: &mut [u8], p: Progress) -> Progress
+    requires { ⌜ p .written ≤ length (now out) ⌝ }
+    requires { ⌜ 4096 ≤ length (now out) ⌝ }
+    ensures { λ r. ⌜ r .written ≤ length (now (out .entry)) ⌝ }
+    ensures { λ r. ⌜ r .used ≡ p .used ⌝ }
+{
+    let room = make_room(out, p.written);
+    let s = p.session;
+    stop(
+        out,
+        room.at,
+        s,
+        std::num::wrapping_add_u64(p.count, 1),
+        p.used,
+    )
+}
+
+// The answers to a piece of input: `got` new bytes, `end` with those that were held.
+pub fn answer_piece(
+    input: &[u8],
+    got: usize,
+    end: usize,
+    out: &mut [u8],
+    s: Session,
+    count: u64,
+) -> Progress
+    requires { ⌜ end ≤ length (now input) ⌝ }
+    requires { ⌜ 4096 ≤ length (now out) ⌝ }
+    ensures { λ r. ⌜ r .written ≤ length (now (out .entry)) ⌝ }
+    ensures { λ r. ⌜ r .used ≤ end ⌝ }
+{
+    let p = answer_lines(input, end, out, s, count);
+    finish(out, p, got, end)
+}

@@ -1,0 +1,30 @@
+-- `script::lines::put_reported` stays within its room: the exact value and the bits of its report.
+use native.Mathlib.Omega.{arith}
+use borrow.Author.Needs.{needs}
+use Rattle.script.specs.Rooms.{within, then}
+use Rattle.script.proofs.Lengths.{hex-room}
+use Rattle.script.proofs.lines.put_reported.Statement.{statement}
+use Rattle.script.proofs.lines.put_reported.Tie as tie
+
+put-requires : tie.Need-put-requires
+put-requires c κs =
+    let s = c .before .before .before .before .before .before .before in
+    let w1 = c .before .before .before .put-exact .ensures in
+    omega (arith, s .pre, w1 .room, w1 .long)
+
+put-hex-requires : tie.Need-put-hex-requires
+put-hex-requires c κs =
+    let s = c .before .before .before .before .before .before .before .before .before .before .before .before in
+    let w1 = c .before .before .before .before .before .before .before .before .put-exact .ensures in
+    let w2 = within 1 (c .before .before .before .before .put .ensures) (omega arith) in
+    omega (arith, s .pre, w1 .room, w1 .long, w2 .room, w2 .long)
+
+returns : tie.Need-returns
+returns c =
+    let w1 = c .before .before .before .before .before .before .before .before .before .before .before .put-exact .ensures in
+    let w2 = within 1 (c .before .before .before .before .before .before .before .put .ensures) (omega arith) in
+    let w3 = within 16 (c .before .before .put-hex .ensures) (hex-room _) in
+    then (then w1 w2) w3
+
+pub put-reported-spec : {M : Type 1} → statement M
+put-reported-spec = tie.close (tie.spec (λ c κs. search needs) put-requires (λ c κs. search needs) put-hex-requires (λ c. returns c .long) returns)

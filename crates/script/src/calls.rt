@@ -1,0 +1,145 @@
+// The calls of a script, read from a line.
+use crate::floats::float_of;
+use crate::pieces::ReadSession;
+use crate::pieces::read_session;
+use crate::pieces::read_three;
+use crate::words::bits_word;
+use crate::words::natural_word;
+use steps::Start;
+use ticks::Sample;
+
+pub enum Name {
+    Open,
+    Predict,
+    Correct,
+    Withdraw,
+    Fill,
+    Nothing,
+}
+
+pub struct Floats {
+    pub values: [f64; 64],
+    pub count: usize,
+    pub end: usize,
+}
+
+// What an opening has before its floats.
+pub struct Settings {
+    pub points: usize,
+    pub tolerance: u64,
+    pub limit: u64,
+    pub start: Start,
+    pub end: usize,
+}
+
+pub struct OpenCall {
+    pub settings: Settings,
+    pub floats: Floats,
+}
+
+pub struct ReadSample {
+    pub value: Sample,
+    pub end: usize,
+}
+
+fn begins(line: &[u8], word: &[u8]) -> bool {
+    if line.len() < word.len() {
+        return false;
+    }
+    let mut i = 0;
+    while i < word.len() {
+        if line[i] != word[i] {
+            return false;
+        }
+        i += 1;
+    }
+    true
+}
+
+// Which call a line begins with; a call that carries nothing is the whole line.
+pub fn name_of(line: &[u8]) -> Name {
+    if begins(line, b"open") {
+        return Name::Open;
+    }
+    if begins(line, b"correct") {
+        return Name::Correct;
+    }
+    if begins(line, b"fill") {
+        return Name::Fill;
+    }
+    if begins(line, b"predict") {
+        if line.len() == 7 {
+            return Name::Predict;
+        }
+        return Name::Nothing;
+    }
+    if begins(line, b"withdraw") {
+        if line.len() == 8 {
+            return Name::Withdraw;
+        }
+    }
+    Name::Nothing
+}
+
+fn read_settings(line: &[u8], at: usize) -> Settings {
+    let points = natural_word(line, at);
+    let tolerance = natural_word(line, points.end);
+    let limit = natural_word(line, tolerance.end);
+    let p = read_three(line, limit.end);
+    let v = read_three(line, p.end);
+    Settings {
+        points: points.value as usize,
+        tolerance: tolerance.value,
+        limit: limit.value,
+        start: Start {
+            x: p.a,
+            y: p.b,
+            z: p.c,
+            vx: v.a,
+            vy: v.b,
+            vz: v.c,
+        },
+        end: v.end,
+    }
+}
+
+// Floats up to the end of the line, 64 at most.
+fn read_floats(line: &[u8], at: usize) -> Floats {
+    let mut values = [0.0f64; 64];
+    let mut count: usize = 0;
+    let mut end = at;
+    while count < 64 {
+        if end == line.len() {
+            break;
+        }
+        let word = bits_word(line, end);
+        values[count] = float_of(word.value);
+        end = word.end;
+        count += 1;
+    }
+    Floats { values, count, end }
+}
+
+pub fn read_open(line: &[u8]) -> OpenCall {
+    let settings = read_settings(line, 4);
+    let floats = read_floats(line, settings.end);
+    OpenCall { settings, floats }
+}
+
+pub fn read_sample(line: &[u8]) -> ReadSample {
+    let x = bits_word(line, 7);
+    let y = bits_word(line, x.end);
+    let z = bits_word(line, y.end);
+    ReadSample {
+        value: Sample {
+            x: float_of(x.value),
+            y: float_of(y.value),
+            z: float_of(z.value),
+        },
+        end: z.end,
+    }
+}
+
+pub fn read_fill(line: &[u8]) -> ReadSession {
+    read_session(line, 4)
+}

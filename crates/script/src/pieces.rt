@@ -1,0 +1,173 @@
+// The pieces of a record, read from a line. A piece that is not there ends at place 0.
+use crate::words::integer_word;
+use crate::words::natural_word;
+use crate::words::small_word;
+use axis::Axis;
+use axis::Motion;
+use exact::Exact;
+use session::Session;
+use session::State;
+
+pub struct Three {
+    pub a: i64,
+    pub b: i64,
+    pub c: i64,
+    pub end: usize,
+}
+
+pub struct ReadExact {
+    pub value: Exact,
+    pub end: usize,
+}
+
+pub struct ReadMotion {
+    pub value: Motion,
+    pub end: usize,
+}
+
+pub struct ReadSamples {
+    pub samples: [i64; 9],
+    pub end: usize,
+}
+
+pub struct ReadAxis {
+    pub axis: Axis,
+    pub end: usize,
+}
+
+// The fields of a record before its axes.
+pub struct Head {
+    pub state: State,
+    pub points: usize,
+    pub tolerance: u64,
+    pub limit: u64,
+    pub accepted: u64,
+    pub corrections: u64,
+    pub end: usize,
+}
+
+pub struct ReadSession {
+    pub session: Session,
+    pub end: usize,
+}
+
+pub fn read_three(line: &[u8], at: usize) -> Three {
+    let a = integer_word(line, at);
+    let b = integer_word(line, a.end);
+    let c = integer_word(line, b.end);
+    Three {
+        a: a.value,
+        b: b.value,
+        c: c.value,
+        end: c.end,
+    }
+}
+
+fn read_exact(line: &[u8], at: usize) -> ReadExact {
+    let whole = integer_word(line, at);
+    let part = small_word(line, whole.end, 4_294_967_296);
+    ReadExact {
+        value: Exact {
+            whole: whole.value,
+            part: part.value as u32,
+        },
+        end: part.end,
+    }
+}
+
+fn read_motion(line: &[u8], at: usize) -> ReadMotion {
+    let position = read_exact(line, at);
+    let velocity = read_exact(line, position.end);
+    let p = position.value;
+    let v = velocity.value;
+    ReadMotion {
+        value: Motion {
+            position: p,
+            velocity: v,
+        },
+        end: velocity.end,
+    }
+}
+
+fn read_samples(line: &[u8], at: usize) -> ReadSamples {
+    let p = read_three(line, at);
+    let q = read_three(line, p.end);
+    let r = read_three(line, q.end);
+    ReadSamples {
+        samples: [p.a, p.b, p.c, q.a, q.b, q.c, r.a, r.b, r.c],
+        end: r.end,
+    }
+}
+
+fn read_axis(line: &[u8], at: usize) -> ReadAxis {
+    let first = read_exact(line, at);
+    let second = read_exact(line, first.end);
+    let read = read_samples(line, second.end);
+    let estimate = read_motion(line, read.end);
+    let s1 = first.value;
+    let s2 = second.value;
+    let samples = read.samples;
+    let motion = estimate.value;
+    ReadAxis {
+        axis: Axis {
+            first: s1,
+            second: s2,
+            samples,
+            estimate: motion,
+        },
+        end: estimate.end,
+    }
+}
+
+fn state_of(n: u64) -> State {
+    if n == 0 {
+        return State::Closed;
+    }
+    if n == 1 {
+        return State::Settled;
+    }
+    State::Awaiting
+}
+
+fn read_head(line: &[u8], at: usize) -> Head {
+    let state = small_word(line, at, 3);
+    let points = natural_word(line, state.end);
+    let tolerance = natural_word(line, points.end);
+    let limit = natural_word(line, tolerance.end);
+    let accepted = natural_word(line, limit.end);
+    let corrections = natural_word(line, accepted.end);
+    Head {
+        state: state_of(state.value),
+        points: points.value as usize,
+        tolerance: tolerance.value,
+        limit: limit.value,
+        accepted: accepted.value,
+        corrections: corrections.value,
+        end: corrections.end,
+    }
+}
+
+pub fn read_session(line: &[u8], at: usize) -> ReadSession {
+    let head = read_head(line, at);
+    let x = read_axis(line, head.end);
+    let y = read_axis(line, x.end);
+    let z = read_axis(line, y.end);
+    let axis_x = x.axis;
+    let axis_y = y.axis;
+    let axis_z = z.axis;
+    let state = head.state;
+    ReadSession {
+        session: Session {
+            state,
+            points: head.points,
+            tolerance: head.tolerance,
+            limit: head.limit,
+            accepted: head.accepted,
+            corrections: head.corrections,
+            x: axis_x,
+            y: axis_y,
+            z: axis_z,
+        },
+        end: z.end,
+    }
+}
