@@ -1,15 +1,15 @@
 -- A formula's sum at the next point: the first weight times that point's sample, and the other weights times the samples so far.
 use mathlib.Core.Path.{_≡_, refl, sym, ap, _∙_}
 use mathlib.Core.List.{List, [], _∷_}
-use Prim.Native.Nat.{ℕ, zero, suc, _+_, _≤_, zero-le}
+use Prim.Native.Nat.{ℕ, zero, suc, _+_, _-_, _≤_, zero-le}
 use native.Mathlib.Nat.{zero-add, suc-add}
 use native.Mathlib.Omega.{arith}
 use lib.IntN.{ℤ, pos, _+ℤ_, _*ℤ_, +ℤ-idl, zero-*ℤ, *ℤ-zero}
-use lib.ListN.{drop}
+use lib.ListN.{take, drop}
 use Rattle.integers.specs.Differences.{at, inFront, bySamples, byDifferences, sizes}
 use Rattle.coefficients.specs.Formulas.{row, weightsOf, olderPart}
 use Rattle.coefficients.specs.declared.Formula.{Formula}
-use Rattle.coefficients.proofs.Rows.{row-law}
+use Rattle.coefficients.proofs.Rows.{row-law, used-law}
 
 -- ---- weights of which the first are skipped
 
@@ -41,3 +41,22 @@ module _ (f : Formula) (p : ℕ) (x : ℕ → ℤ) where
 
   pub next-law : (a : ℤ) → at (row (weightsOf f) p) 0 *ℤ a +ℤ olderPart f p x ≡ byDifferences (weightsOf f p) (inFront a x)
   next-law a = ap (λ z. at (row (weightsOf f) p) 0 *ℤ a +ℤ z) (sym older-law) ∙ front-law a
+
+-- ---- the older part by the weights that are used
+
+take-drop : (n : ℕ) (ws : List ℤ) → take n (drop 1 ws) ≡ drop 1 (take (suc n) ws)
+take-drop zero [] = refl
+take-drop (suc n) [] = refl
+take-drop n (w ∷ ws) = refl
+
+pub older-used : (f : Formula) (p : ℕ) → (1 ≤ p) × (p ≤ 9) → (x : ℕ → ℤ) → bySamples (take (p - 1) (drop 1 (row (weightsOf f) p))) x ≡ olderPart f p x
+unfolding olderPart
+older-used f zero h x = absurd (omega (arith, h .0))
+older-used f (suc n) h x =
+    let ws = take (suc n) (row (weightsOf f) (suc n)) in
+    let e : suc n - 1 ≡ n = omega arith in
+    ap (λ k. bySamples (take k (drop 1 (row (weightsOf f) (suc n)))) x) e
+    ∙ ap (λ us. bySamples us x) (take-drop n (row (weightsOf f) (suc n)))
+    ∙ sym (rw (*ℤ-zero (at ws 0)) (+ℤ-idl (bySamples (drop 1 ws) x)))
+    ∙ sym (by-front ws (pos 0) x)
+    ∙ used-law f (suc n) (h .1) (inFront (pos 0) x)

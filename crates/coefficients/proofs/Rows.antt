@@ -37,3 +37,7 @@ module _ (f : Formula) (p : ℕ) (h : p ≤ 9) where
   pub take-row : take p (row (weightsOf f) p) ≡ ordinates (weightsOf f p)
   unfolding row
   take-row = take-at (ordinates (weightsOf f p)) (replicate (9 - p) (pos 0)) p length-row
+
+  -- the weights that are used come to it by themselves
+  pub used-law : (x : ℕ → ℤ) → bySamples (take p (row (weightsOf f) p)) x ≡ byDifferences (weightsOf f p) x
+  used-law x = ap (λ ws. bySamples ws x) take-row ∙ ordinates-law (weightsOf f p) x
