@@ -1,5 +1,5 @@
 -- A formula's row of nine weights: it begins with the p weights by samples, and comes to what the differences come to.
-use mathlib.Core.Path.{_≡_, refl, _∙_, ap}
+use mathlib.Core.Path.{_≡_, refl, sym, _∙_, ap}
 use mathlib.Core.Bool.{true}
 use mathlib.Core.List.{List}
 use Prim.Native.Nat.{ℕ, zero, suc, _-_, _≤_}
@@ -12,11 +12,29 @@ use Rattle.coefficients.specs.Fraction.{Fraction}
 use Rattle.coefficients.specs.Scaled.{allWhole, run, later}
 use Rattle.coefficients.specs.Formulas.{row, weightsOf, coefficientOf, firstIndex}
 use Rattle.coefficients.specs.declared.Formula.{Formula}
-use Rattle.coefficients.proofs.Written.{wholeOf, weights-run}
+use Rattle.coefficients.proofs.Written.{wholeOf, weights-run, writtenRow, row-written}
 
 pub row-law : (formula : ℕ → List ℤ) (p : ℕ) (x : ℕ → ℤ) → bySamples (row formula p) x ≡ byDifferences (formula p) x
 unfolding row
 row-law formula p x = padded (ordinates (formula p)) (9 - p) x ∙ ordinates-law (formula p) x
+
+-- ---- by its number
+
+-- what is written for k points is the row for p, where p is k
+pub numbered : (f : Formula) (k : ℕ) {p : ℕ} {ws : List ℤ} → ws ≡ writtenRow f k → p ≡ k → ws ≡ row (weightsOf f) p
+numbered f k e h = e ∙ sym (row-written f k) ∙ ap (row (weightsOf f)) (sym h)
+
+past : {p k : ℕ} → k ≤ p → (p ≡ k → ⊥) → suc k ≤ p
+past h n = omega arith
+
+-- what a match tells where p is none of its numbers
+abbrev pub Others : ℕ → Type 0
+Others p = (((((((Unit × (p ≡ 1 → ⊥)) × (p ≡ 2 → ⊥)) × (p ≡ 3 → ⊥)) × (p ≡ 4 → ⊥)) × (p ≡ 5 → ⊥)) × (p ≡ 6 → ⊥)) × (p ≡ 7 → ⊥)) × (p ≡ 8 → ⊥)
+
+pub ninth : {p : ℕ} → (1 ≤ p) × (p ≤ 9) → Others p → p ≡ 9
+ninth {p} h r =
+    let least : 9 ≤ p = past (past (past (past (past (past (past (past (h .0) (r .0 .0 .0 .0 .0 .0 .0 .1)) (r .0 .0 .0 .0 .0 .0 .1)) (r .0 .0 .0 .0 .0 .1)) (r .0 .0 .0 .0 .1)) (r .0 .0 .0 .1)) (r .0 .0 .1)) (r .0 .1)) (r .1) in
+    omega (arith, least, h .1)
 
 -- ---- lengths
 

@@ -1,5 +1,10 @@
 // The ordinate coefficients of the four formulas, times D: row p - 1 for p back points, the newest point first, unused places 0.
-pub const POSITION_PREDICTOR: [[i64; 9]; 9] = [
+// Each arm of a match asks for a row by its own number, so that the compiled code writes out that row and not the square.
+ghost use mathlib.Core.Path.{_≡_};
+ghost use Prim.Native.Nat.{_≤_};
+ghost use Rattle.coefficients.specs.Formulas.{row, positionPredictor, positionCorrector, velocityPredictor, velocityCorrector};
+
+const POSITION_PREDICTOR: [[i64; 9]; 9] = [
     [13305600, 0, 0, 0, 0, 0, 0, 0, 0],
     [26611200, -13305600, 0, 0, 0, 0, 0, 0, 0],
     [39251520, -38586240, 12640320, 0, 0, 0, 0, 0, 0],
@@ -61,7 +66,24 @@ pub const POSITION_PREDICTOR: [[i64; 9]; 9] = [
     ],
 ];
 
-pub const POSITION_CORRECTOR: [[i64; 9]; 9] = [
+pub fn position_predictor(p: usize) -> [i64; 9]
+    requires { ⌜ (1 ≤ p) × (p ≤ 9) ⌝ }
+    ensures { λ r. ⌜ r ≡ row positionPredictor p ⌝ }
+{
+    match p {
+        1 => POSITION_PREDICTOR[0],
+        2 => POSITION_PREDICTOR[1],
+        3 => POSITION_PREDICTOR[2],
+        4 => POSITION_PREDICTOR[3],
+        5 => POSITION_PREDICTOR[4],
+        6 => POSITION_PREDICTOR[5],
+        7 => POSITION_PREDICTOR[6],
+        8 => POSITION_PREDICTOR[7],
+        _ => POSITION_PREDICTOR[8],
+    }
+}
+
+const POSITION_CORRECTOR: [[i64; 9]; 9] = [
     [13305600, 0, 0, 0, 0, 0, 0, 0, 0],
     [13305600, 0, 0, 0, 0, 0, 0, 0, 0],
     [12640320, 1330560, -665280, 0, 0, 0, 0, 0, 0],
@@ -113,7 +135,24 @@ pub const POSITION_CORRECTOR: [[i64; 9]; 9] = [
     ],
 ];
 
-pub const VELOCITY_PREDICTOR: [[i64; 9]; 9] = [
+pub fn position_corrector(p: usize) -> [i64; 9]
+    requires { ⌜ (1 ≤ p) × (p ≤ 9) ⌝ }
+    ensures { λ r. ⌜ r ≡ row positionCorrector p ⌝ }
+{
+    match p {
+        1 => POSITION_CORRECTOR[0],
+        2 => POSITION_CORRECTOR[1],
+        3 => POSITION_CORRECTOR[2],
+        4 => POSITION_CORRECTOR[3],
+        5 => POSITION_CORRECTOR[4],
+        6 => POSITION_CORRECTOR[5],
+        7 => POSITION_CORRECTOR[6],
+        8 => POSITION_CORRECTOR[7],
+        _ => POSITION_CORRECTOR[8],
+    }
+}
+
+const VELOCITY_PREDICTOR: [[i64; 9]; 9] = [
     [79833600, 0, 0, 0, 0, 0, 0, 0, 0],
     [146361600, -66528000, 0, 0, 0, 0, 0, 0, 0],
     [206236800, -186278400, 59875200, 0, 0, 0, 0, 0, 0],
@@ -175,7 +214,24 @@ pub const VELOCITY_PREDICTOR: [[i64; 9]; 9] = [
     ],
 ];
 
-pub const VELOCITY_CORRECTOR: [[i64; 9]; 9] = [
+pub fn velocity_predictor(p: usize) -> [i64; 9]
+    requires { ⌜ (1 ≤ p) × (p ≤ 9) ⌝ }
+    ensures { λ r. ⌜ r ≡ row velocityPredictor p ⌝ }
+{
+    match p {
+        1 => VELOCITY_PREDICTOR[0],
+        2 => VELOCITY_PREDICTOR[1],
+        3 => VELOCITY_PREDICTOR[2],
+        4 => VELOCITY_PREDICTOR[3],
+        5 => VELOCITY_PREDICTOR[4],
+        6 => VELOCITY_PREDICTOR[5],
+        7 => VELOCITY_PREDICTOR[6],
+        8 => VELOCITY_PREDICTOR[7],
+        _ => VELOCITY_PREDICTOR[8],
+    }
+}
+
+const VELOCITY_CORRECTOR: [[i64; 9]; 9] = [
     [-79833600, 0, 0, 0, 0, 0, 0, 0, 0],
     [-93139200, 13305600, 0, 0, 0, 0, 0, 0, 0],
     [-99792000, 26611200, -6652800, 0, 0, 0, 0, 0, 0],
@@ -236,3 +292,20 @@ pub const VELOCITY_CORRECTOR: [[i64; 9]; 9] = [
         -1260182,
     ],
 ];
+
+pub fn velocity_corrector(p: usize) -> [i64; 9]
+    requires { ⌜ (1 ≤ p) × (p ≤ 9) ⌝ }
+    ensures { λ r. ⌜ r ≡ row velocityCorrector p ⌝ }
+{
+    match p {
+        1 => VELOCITY_CORRECTOR[0],
+        2 => VELOCITY_CORRECTOR[1],
+        3 => VELOCITY_CORRECTOR[2],
+        4 => VELOCITY_CORRECTOR[3],
+        5 => VELOCITY_CORRECTOR[4],
+        6 => VELOCITY_CORRECTOR[5],
+        7 => VELOCITY_CORRECTOR[6],
+        8 => VELOCITY_CORRECTOR[7],
+        _ => VELOCITY_CORRECTOR[8],
+    }
+}

@@ -1,0 +1,27 @@
+-- `coefficients::squares::velocity_corrector` meets its contract: each row is the one that the rules give, which antt computes (`refl`).
+use mathlib.Core.Path.{refl}
+use borrow.Author.Needs.{needs}
+use Rattle.integers.specs.Differences.{ordinates, spread}
+use Rattle.coefficients.specs.declared.Formula.the-variants.{VelocityCorrector}
+use Rattle.coefficients.proofs.Rows.{numbered, ninth}
+use Rattle.coefficients.proofs.Written.{written}
+use Rattle.coefficients.proofs.squares.velocity_corrector.Statement.{statement}
+use Rattle.coefficients.proofs.squares.velocity_corrector.Tie as tie
+
+pub velocity-corrector-spec : {M : Type 1} → statement M
+unfolding written ordinates spread
+velocity-corrector-spec =
+    tie.close
+    (tie.spec
+    (λ c. search needs) (λ c. search needs) (λ c. search needs)
+    (λ c. search needs) (λ c. search needs) (λ c. search needs)
+    (λ c. search needs) (λ c. search needs) (λ c. search needs)
+    (λ c. numbered VelocityCorrector 1 refl (c .before .match .keys1))
+    (λ c. numbered VelocityCorrector 2 refl (c .before .match .keys2))
+    (λ c. numbered VelocityCorrector 3 refl (c .before .match .keys3))
+    (λ c. numbered VelocityCorrector 4 refl (c .before .match .keys4))
+    (λ c. numbered VelocityCorrector 5 refl (c .before .match .keys5))
+    (λ c. numbered VelocityCorrector 6 refl (c .before .match .keys6))
+    (λ c. numbered VelocityCorrector 7 refl (c .before .match .keys7))
+    (λ c. numbered VelocityCorrector 8 refl (c .before .match .keys8))
+    (λ c. numbered VelocityCorrector 9 refl (ninth (c .before .before .pre) (c .before .match .rest))))
