@@ -70,16 +70,17 @@ pub fn position_predictor(p: usize) -> [i64; 9]
     requires { ⌜ (1 ≤ p) × (p ≤ 9) ⌝ }
     ensures { λ r. ⌜ r ≡ row positionPredictor p ⌝ }
 {
+    let square = POSITION_PREDICTOR;
     match p {
-        1 => POSITION_PREDICTOR[0],
-        2 => POSITION_PREDICTOR[1],
-        3 => POSITION_PREDICTOR[2],
-        4 => POSITION_PREDICTOR[3],
-        5 => POSITION_PREDICTOR[4],
-        6 => POSITION_PREDICTOR[5],
-        7 => POSITION_PREDICTOR[6],
-        8 => POSITION_PREDICTOR[7],
-        _ => POSITION_PREDICTOR[8],
+        1 => square[0],
+        2 => square[1],
+        3 => square[2],
+        4 => square[3],
+        5 => square[4],
+        6 => square[5],
+        7 => square[6],
+        8 => square[7],
+        _ => square[8],
     }
 }
 
@@ -139,16 +140,17 @@ pub fn position_corrector(p: usize) -> [i64; 9]
     requires { ⌜ (1 ≤ p) × (p ≤ 9) ⌝ }
     ensures { λ r. ⌜ r ≡ row positionCorrector p ⌝ }
 {
+    let square = POSITION_CORRECTOR;
     match p {
-        1 => POSITION_CORRECTOR[0],
-        2 => POSITION_CORRECTOR[1],
-        3 => POSITION_CORRECTOR[2],
-        4 => POSITION_CORRECTOR[3],
-        5 => POSITION_CORRECTOR[4],
-        6 => POSITION_CORRECTOR[5],
-        7 => POSITION_CORRECTOR[6],
-        8 => POSITION_CORRECTOR[7],
-        _ => POSITION_CORRECTOR[8],
+        1 => square[0],
+        2 => square[1],
+        3 => square[2],
+        4 => square[3],
+        5 => square[4],
+        6 => square[5],
+        7 => square[6],
+        8 => square[7],
+        _ => square[8],
     }
 }
 
@@ -218,16 +220,17 @@ pub fn velocity_predictor(p: usize) -> [i64; 9]
     requires { ⌜ (1 ≤ p) × (p ≤ 9) ⌝ }
     ensures { λ r. ⌜ r ≡ row velocityPredictor p ⌝ }
 {
+    let square = VELOCITY_PREDICTOR;
     match p {
-        1 => VELOCITY_PREDICTOR[0],
-        2 => VELOCITY_PREDICTOR[1],
-        3 => VELOCITY_PREDICTOR[2],
-        4 => VELOCITY_PREDICTOR[3],
-        5 => VELOCITY_PREDICTOR[4],
-        6 => VELOCITY_PREDICTOR[5],
-        7 => VELOCITY_PREDICTOR[6],
-        8 => VELOCITY_PREDICTOR[7],
-        _ => VELOCITY_PREDICTOR[8],
+        1 => square[0],
+        2 => square[1],
+        3 => square[2],
+        4 => square[3],
+        5 => square[4],
+        6 => square[5],
+        7 => square[6],
+        8 => square[7],
+        _ => square[8],
     }
 }
 
@@ -297,15 +300,16 @@ pub fn velocity_corrector(p: usize) -> [i64; 9]
     requires { ⌜ (1 ≤ p) × (p ≤ 9) ⌝ }
     ensures { λ r. ⌜ r ≡ row velocityCorrector p ⌝ }
 {
+    let square = VELOCITY_CORRECTOR;
     match p {
-        1 => VELOCITY_CORRECTOR[0],
-        2 => VELOCITY_CORRECTOR[1],
-        3 => VELOCITY_CORRECTOR[2],
-        4 => VELOCITY_CORRECTOR[3],
-        5 => VELOCITY_CORRECTOR[4],
-        6 => VELOCITY_CORRECTOR[5],
-        7 => VELOCITY_CORRECTOR[6],
-        8 => VELOCITY_CORRECTOR[7],
-        _ => VELOCITY_CORRECTOR[8],
+        1 => square[0],
+        2 => square[1],
+        3 => square[2],
+        4 => square[3],
+        5 => square[4],
+        6 => square[5],
+        7 => square[6],
+        8 => square[7],
+        _ => square[8],
     }
 }

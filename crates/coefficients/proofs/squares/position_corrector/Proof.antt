@@ -1,6 +1,6 @@
 -- `coefficients::squares::position_corrector` meets its contract: each row is the one that the rules give, which antt computes (`refl`).
 use mathlib.Core.Path.{refl}
-use borrow.Author.Needs.{needs}
+use lib.Dec.{lit≤}
 use Rattle.integers.specs.Differences.{ordinates, spread}
 use Rattle.coefficients.specs.declared.Formula.the-variants.{PositionCorrector}
 use Rattle.coefficients.proofs.Rows.{numbered, ninth}
@@ -13,9 +13,9 @@ unfolding written ordinates spread
 position-corrector-spec =
     tie.close
     (tie.spec
-    (λ c. search needs) (λ c. search needs) (λ c. search needs)
-    (λ c. search needs) (λ c. search needs) (λ c. search needs)
-    (λ c. search needs) (λ c. search needs) (λ c. search needs)
+    (λ c. lit≤ tt) (λ c. lit≤ tt) (λ c. lit≤ tt)
+    (λ c. lit≤ tt) (λ c. lit≤ tt) (λ c. lit≤ tt)
+    (λ c. lit≤ tt) (λ c. lit≤ tt) (λ c. lit≤ tt)
     (λ c. numbered PositionCorrector 1 refl (c .before .match .keys1))
     (λ c. numbered PositionCorrector 2 refl (c .before .match .keys2))
     (λ c. numbered PositionCorrector 3 refl (c .before .match .keys3))

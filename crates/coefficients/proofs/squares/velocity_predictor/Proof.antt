@@ -1,6 +1,6 @@
 -- `coefficients::squares::velocity_predictor` meets its contract: each row is the one that the rules give, which antt computes (`refl`).
 use mathlib.Core.Path.{refl}
-use borrow.Author.Needs.{needs}
+use lib.Dec.{lit≤}
 use Rattle.integers.specs.Differences.{ordinates, spread}
 use Rattle.coefficients.specs.declared.Formula.the-variants.{VelocityPredictor}
 use Rattle.coefficients.proofs.Rows.{numbered, ninth}
@@ -13,9 +13,9 @@ unfolding written ordinates spread
 velocity-predictor-spec =
     tie.close
     (tie.spec
-    (λ c. search needs) (λ c. search needs) (λ c. search needs)
-    (λ c. search needs) (λ c. search needs) (λ c. search needs)
-    (λ c. search needs) (λ c. search needs) (λ c. search needs)
+    (λ c. lit≤ tt) (λ c. lit≤ tt) (λ c. lit≤ tt)
+    (λ c. lit≤ tt) (λ c. lit≤ tt) (λ c. lit≤ tt)
+    (λ c. lit≤ tt) (λ c. lit≤ tt) (λ c. lit≤ tt)
     (λ c. numbered VelocityPredictor 1 refl (c .before .match .keys1))
     (λ c. numbered VelocityPredictor 2 refl (c .before .match .keys2))
     (λ c. numbered VelocityPredictor 3 refl (c .before .match .keys3))
