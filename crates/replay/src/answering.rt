@@ -39,12 +39,12 @@ fn put_both(out: &mut [u8], at: usize, name: &[u8], answer: Answer, s: Session) 
     }
 }
 
-fn put_open(out: &mut [u8], at: usize, call: OpenCall) -> Answered
+fn put_open(out: &mut [u8], at: usize, s: Session, call: OpenCall) -> Answered
     requires { ⌜ call .floats .count ≤ 64 ⌝ }
     requires { ⌜ at + 2048 ≤ length (now out) ⌝ }
     ensures { λ r. ⌜ r .end ≤ at + 2048 ⌝ }
 {
-    let after = calls::open(call);
+    let after = calls::open(s, call);
     let opening = after.answer;
     let session = after.session;
     put_both(out, at, b"open", script::of_opening(opening), session)
@@ -62,7 +62,7 @@ fn answer_open(out: &mut [u8], at: usize, s: Session, line: &[u8]) -> Answered
     if 64 < floats.count {
         return no_call(s, at);
     }
-    put_open(out, at, read)
+    put_open(out, at, s, read)
 }
 
 fn answer_predict(out: &mut [u8], at: usize, s: Session) -> Answered

@@ -1,4 +1,4 @@
-// The four calls, as this program makes them.
+// The four calls, as this program makes them: each lends the record to a call of the library.
 use script::OpenCall;
 use session::Session;
 use steps::AfterCorrect;
@@ -6,39 +6,44 @@ use steps::AfterOpen;
 use steps::AfterPredict;
 use steps::AfterWithdraw;
 use ticks::Sample;
+ghost use mathlib.Core.Path.{_≡_};
 ghost use Prim.Native.Nat.{_≤_};
+ghost use Rattle.replay.specs.Calls.{openedBy};
+ghost use Rattle.steps.specs.Steps.{predictOf, correctOf, withdrawOf};
 
-pub fn open(call: OpenCall) -> AfterOpen
+pub fn open(s: Session, call: OpenCall) -> AfterOpen
     requires { ⌜ call .floats .count ≤ 64 ⌝ }
+    ensures { λ r. ⌜ r ≡ openedBy call ⌝ }
 {
     let settings = call.settings;
     let floats = call.floats;
     let values = floats.values;
     let count = floats.count;
     let start = settings.start;
-    let mut given = [0.0f64; 64];
-    let mut i: usize = 0;
-    while i < count {
-        given[i] = values[i];
-        i += 1;
-    }
-    steps::open_step(
+    stepper::owned::open(
+        s,
         settings.points,
         settings.tolerance,
         settings.limit,
         start,
-        &given[..count],
+        &values[..count],
     )
 }
 
-pub fn predict(s: Session) -> AfterPredict {
-    steps::predict_step(s)
+pub fn predict(s: Session) -> AfterPredict
+    ensures { λ r. ⌜ r ≡ predictOf s ⌝ }
+{
+    stepper::owned::predict(s)
 }
 
-pub fn correct(s: Session, sample: Sample) -> AfterCorrect {
-    steps::correct_step(s, sample)
+pub fn correct(s: Session, sample: Sample) -> AfterCorrect
+    ensures { λ r. ⌜ r ≡ correctOf s sample ⌝ }
+{
+    stepper::owned::correct(s, sample)
 }
 
-pub fn withdraw(s: Session) -> AfterWithdraw {
-    steps::withdraw_step(s)
+pub fn withdraw(s: Session) -> AfterWithdraw
+    ensures { λ r. ⌜ r ≡ withdrawOf s ⌝ }
+{
+    stepper::owned::withdraw(s)
 }

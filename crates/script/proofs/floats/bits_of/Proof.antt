@@ -1,6 +1,6 @@
 -- `script::floats::bits_of` is safe: a float that is equal to itself is no NaN.
 use borrow.Author.Needs.{needs}
-use Rattle.script.proofs.Patterns.{no-nan}
+use Rattle.ticks.proofs.Numbers.{no-nan}
 use Rattle.script.proofs.floats.bits_of.Statement.{statement}
 use Rattle.script.proofs.floats.bits_of.Tie as tie
 
