@@ -18,7 +18,7 @@ use Rattle.exact.specs.Numerator.{D, numerator}
 use Rattle.exact.specs.Laws.{numerator-parts}
 use Rattle.exact.specs.Report.{reportOf}
 use Rattle.exact.specs.Rounding.{ordinary, plus-positive}
-use Rattle.exact.specs.Sums.{Fraction, fraction, quotient, sum-ordinary, sum-positive}
+use Rattle.exact.specs.FloatSums.{Fraction, fraction, quotient, sum-ordinary, sum-positive}
 
 abbrev below-zero : ℤ → Bool
 below-zero (pos n) = false
