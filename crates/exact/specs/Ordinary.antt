@@ -1,145 +1,24 @@
--- Every report is an ordinary float: no NaN, no infinity, no minus zero.
-use mathlib.Core.Path.{_≡_, sym, ap, _∙_, subst}
-use Prim.Native.Nat.{ℕ, zero, suc, _+_, _-_, _*_, _%_, _^_, _≤_, _<_}
-use native.Mathlib.Nat.{le-trans, le-of-eq, mul-one, one-mul, mul-pos, zero-lt-suc, mul-comm, mul-assoc, mul-left-comm, mul-le-mul-right, le-of-mul-le-mul-right, lt-of-mul-lt-mul-right}
+-- Every report is an ordinary float: no NaN, no infinity, no minus zero. That of a value above zero is above zero.
+use mathlib.Core.Path.{_≡_, sym, subst}
+use Prim.Native.Nat.{suc, _+_, _^_, _≤_, _<_}
+use native.Mathlib.Nat.{le-trans, eq-zero-or-pos, mul-le-mul-right}
+use mathlib.Core.Logic.{inl, inr}
 use native.Mathlib.Omega.{arith}
-use mathlib.Core.Bool.{Bool, true, false, _&&_, _||_, cond, true≢false}
-use lib.Dec.{T, ltb, leb, eqb, ltb→lt, leb→le, eqb→eq, lit<, lit≤}
-use lib.Pow.{pow-pos}
+use mathlib.Core.Bool.{Bool, true, false}
+use lib.Dec.{T, lit<, lit≤}
 use lib.IntN.{ℤ, pos, negsuc, natAbs}
-use lib.Ieee.{Float, nan, inf, fin, binary64, low, up, down, round, le, fits, add, sum, div, ofInt, prec, emax}
-use lib.Ieee.Fits.{round-fits, up-pos, down-pos, and-l, and-r}
+use lib.Signed.{_<ℤ_}
+use lib.Ieee.{Float, binary64, low, round, add, div, ofInt}
 use lib.Ieee.Exact.{HasValue}
-use lib.Ieee.Order.{round-mono}
-use lib.Ieee.Scale.{round-same, grid}
 use lib.Ieee.Back.{round-whole}
-use lib.Ieee.Positive.{first-pos}
+use lib.Ieee.Positive.{num, den, positive, den-pos, own-value, value-pos}
+use Rattle.integers.specs.Parts.{negPart, integers, one-part, natAbs-parts}
 use Rattle.exact.specs.declared.Exact.{Exact}
-use Rattle.exact.specs.Numerator.{D}
+use Rattle.exact.specs.Numerator.{D, numerator}
+use Rattle.exact.specs.Laws.{numerator-parts}
 use Rattle.exact.specs.Report.{reportOf}
-use Rattle.exact.specs.Rounding.{ordinary, plus-ordinary, minus-ordinary, rounded-value}
-
--- a float from 0 to 1, with the sign +, that the format holds
-abbrev Fraction : Float → Type 0
-Fraction nan = ⊥
-Fraction (inf s) = ⊥
-Fraction (fin true m e) = ⊥
-Fraction (fin false m e) = (m * up e ≤ down e) × (down e ≤ 2 ^ low binary64)
-
-at-most : (a b : ℕ) → T (ltb a b || (eqb a b && true)) → a ≤ b
-at-most a b = go (ltb a b) (eqb a b) (ltb→lt a b) (eqb→eq a b)
-  where
-    go : (s t : Bool) → (T s → a < b) → (T t → a ≡ b) → T (s || (t && true)) → a ≤ b
-    go true t f g h = omega (arith, f tt)
-    go false true f g h = le-of-eq (g tt)
-    go false false f g h = absurd h
-
--- a float at most 1
-up-to-one : (m : ℕ) (e : ℤ) (y : Float) → HasValue y false 1 1 → T (le (fin false m e) y) → m * up e ≤ down e
-unfolding le
-up-to-one m e nan v h = absurd v
-up-to-one m e (inf t) v h = absurd v
-up-to-one m e (fin true n d) v h = absurd (true≢false (v .0))
-up-to-one m e (fin false n d) v h =
-    le-of-mul-le-mul-right {k = down d}
-    (le-trans (at-most (m * up e * down d) (n * up d * down e) h) (le-of-eq (ap (λ (z : ℕ). z * down e) (sym (mul-one (n * up d)) ∙ v .1 ∙ one-mul (down d)) ∙ mul-comm (down d) (down e))))
-    (down-pos d)
-
-scaled : (m : ℕ) (e : ℤ) → T (fits binary64 (fin false m e)) → down e ≤ 2 ^ low binary64
-unfolding fits
-scaled zero e t = le-trans (subst (λ (z : ℕ). z ≤ up e * down e) (one-mul (down e)) (mul-le-mul-right (down e) (up-pos e))) (le-trans (le-of-eq (eqb→eq (up e * down e) 1 t)) (pow-pos (low binary64)))
-scaled (suc m) e t = leb→le (down e) (2 ^ low binary64)
-    (and-r (eqb (suc m % 2) 1 && ltb (suc m) (2 ^ prec binary64)) (leb (down e) (2 ^ low binary64))
-    (and-l (eqb (suc m % 2) 1 && ltb (suc m) (2 ^ prec binary64) && leb (down e) (2 ^ low binary64)) (ltb (suc m * up e) (2 ^ suc (emax binary64) * down e)) t))
-
--- a / b, rounded, for a from 0 to b
-fraction : (a b : ℕ) → 0 < b → a ≤ b → Fraction (round binary64 false a b)
-fraction a b B h =
-    go (round binary64 false a b) (rounded-value a b B (le-trans h (omega arith)) false)
-    (round-mono binary64 a b 1 1 B (zero-lt-suc 0) (omega arith))
-    (round-fits binary64 false a b)
-  where
-    go : (x : Float) → HasValue x false (grid binary64 a b) (2 ^ low binary64) → T (le x (round binary64 false 1 1)) → T (fits binary64 x) → Fraction x
-    go nan v l t = absurd v
-    go (inf s) v l t = absurd v
-    go (fin true m e) v l t = absurd (true≢false (v .0))
-    go (fin false m e) v l t = (up-to-one m e (round binary64 false 1 1) (round-whole binary64 false 1 (lit≤ tt)) l, scaled m e t)
-
--- a quotient of two whole numbers
-quotient : (x y : Float) (a b : ℕ) → HasValue x false a 1 → HasValue y false b 1 → 0 < b → div binary64 x y ≡ round binary64 false a b
-unfolding div
-quotient nan y a b v w B = absurd v
-quotient (inf s) y a b v w B = absurd v
-quotient (fin true m e) y a b v w B = absurd (true≢false (v .0))
-quotient (fin false m e) nan a b v w B = absurd w
-quotient (fin false m e) (inf s) a b v w B = absurd w
-quotient (fin false m e) (fin true n d) a b v w B = absurd (true≢false (w .0))
-quotient (fin false m e) (fin false n d) a b v w B = go (eqb n 0) (eqb→eq n 0)
-  where
-    N : 0 < n
-    N = first-pos n (up d) (first-pos (n * up d) 1 (subst (λ (z : ℕ). 0 < z) (sym (w .1)) (mul-pos B (down-pos d))))
-
-    cross : m * up e * down d * b ≡ a * (n * up d * down e)
-    cross =
-        let x : m * up e ≡ a * down e = sym (mul-one (m * up e)) ∙ v .1 in
-        let y : n * up d ≡ b * down d = sym (mul-one (n * up d)) ∙ w .1 in
-        rw (x, y) (simp (mul-assoc, mul-comm, mul-left-comm))
-
-    go : (t : Bool) → (T t → n ≡ 0) → cond t (cond (eqb m 0) nan (inf false)) (round binary64 false (m * up e * down d) (n * up d * down e)) ≡ round binary64 false a b
-    go true f = absurd (omega (arith, f tt, N))
-    go false f = round-same binary64 false (m * up e * down d) (n * up d * down e) a b (mul-pos (mul-pos N (up-pos d)) (down-pos e)) B cross
-
--- a fraction and a whole number: A / C and B / C, with B = k C
-module _ (A B C k : ℕ) (h : A ≤ C) (e : B ≡ k * C) (l : k ≤ 2 ^ 53) where
-  roof-sum : A + B ≤ 2 ^ 54 * C
-  roof-sum = omega (arith, mul-le-mul-right C l)
-
-  roof-less : B - A ≤ 2 ^ 54 * C
-  roof-less = omega (arith, mul-le-mul-right C l)
-
-  roof-more : A - B ≤ 2 ^ 54 * C
-  roof-more = omega arith
-
--- a fraction and a whole number
--- the difference of two unequal multiples is at least one: C = p d, B - A a multiple of d
-least : (x y p d l : ℕ) → x * d < y * d → p ≤ l → p * d ≤ (y * d - x * d) * l
-least x y p d l h k =
-    let one : d ≤ y * d - x * d = omega (arith, mul-le-mul-right d (lt-of-mul-lt-mul-right d h)) in
-    le-trans (mul-le-mul-right d k) (subst (λ (z : ℕ). z ≤ (y * d - x * d) * l) (mul-comm d l) (mul-le-mul-right l one))
-
-sum-ordinary : (x y : Float) (s : Bool) (k : ℕ) → Fraction x → HasValue y s k 1 → k ≤ 2 ^ 53 → T (ordinary (add binary64 x y))
-unfolding add sum
-sum-ordinary nan y s k v w h = absurd v
-sum-ordinary (inf t) y s k v w h = absurd v
-sum-ordinary (fin true m e) y s k v w h = absurd v
-sum-ordinary (fin false m e) nan s k v w h = absurd w
-sum-ordinary (fin false m e) (inf t) s k v w h = absurd w
-sum-ordinary (fin false m e) (fin t n d) s k v w h = by t
-  where
-    C : 0 < down e * down d
-    C = mul-pos (down-pos e) (down-pos d)
-
-    small : m * up e * down d ≤ down e * down d
-    small = mul-le-mul-right (down d) (v .0)
-
-    whole : n * up d ≡ k * down d
-    whole = sym (mul-one (n * up d)) ∙ w .1
-
-    multiple : n * up d * down e ≡ k * (down e * down d)
-    multiple = rw whole (simp (mul-assoc, mul-comm))
-
-    less : (b : Bool) → (T b → m * up e * down d < n * up d * down e) → T (ordinary (cond b (round binary64 true (n * up d * down e - m * up e * down d) (down e * down d)) (round binary64 false (m * up e * down d - n * up d * down e) (down e * down d))))
-    less true f =
-        minus-ordinary (n * up d * down e - m * up e * down d) (down e * down d) C (roof-less (m * up e * down d) (n * up d * down e) (down e * down d) k small multiple h)
-        (subst (λ (z : ℕ). down e * down d ≤ (z - m * up e * down d) * 2 ^ low binary64) (rw whole (simp (mul-assoc, mul-comm)))
-        (least (m * up e) (k * down e) (down e) (down d) (2 ^ low binary64) (subst (λ (z : ℕ). m * up e * down d < z) (rw whole (simp (mul-assoc, mul-comm))) (f tt)) (v .1)))
-    less false f = plus-ordinary (m * up e * down d - n * up d * down e) (down e * down d) C (roof-more (m * up e * down d) (n * up d * down e) (down e * down d) k small multiple h)
-
-    by : (t : Bool) → T (ordinary (add binary64 (fin false m e) (fin t n d)))
-    by false = plus-ordinary (m * up e * down d + n * up d * down e) (down e * down d) C (roof-sum (m * up e * down d) (n * up d * down e) (down e * down d) k small multiple h)
-    by true = less (ltb (m * up e * down d) (n * up d * down e)) (ltb→lt (m * up e * down d) (n * up d * down e))
-
--- ---- reports
+use Rattle.exact.specs.Rounding.{ordinary, plus-positive}
+use Rattle.exact.specs.FloatSums.{Fraction, fraction, quotient, sum-ordinary, sum-positive}
 
 abbrev below-zero : ℤ → Bool
 below-zero (pos n) = false
@@ -151,12 +30,31 @@ unfolding ofInt
 whole-value (pos n) h = round-whole binary64 false n h
 whole-value (negsuc n) h = round-whole binary64 true (suc n) h
 
-pub report-ordinary : (e : Exact) → e .part < D → natAbs (e .whole) ≤ 2 ^ 53 → T (ordinary (reportOf e))
-report-ordinary e p h =
-    let part = ofInt binary64 (pos (e .part)) in
-    let d = ofInt binary64 (pos D) in
-    let q : div binary64 part d ≡ round binary64 false (e .part) D = quotient part d (e .part) D (whole-value (pos (e .part)) (omega arith)) (whole-value (pos D) (lit≤ tt)) (lit< tt) in
-    sum-ordinary (div binary64 part d) (ofInt binary64 (e .whole)) (below-zero (e .whole)) (natAbs (e .whole))
-    (subst Fraction (sym q) (fraction (e .part) D (lit< tt) (omega arith)))
-    (whole-value (e .whole) h)
-    h
+-- part / D, rounded
+abbrev remainder : Exact → Float
+remainder e = div binary64 (ofInt binary64 (pos (e .part))) (ofInt binary64 (pos D))
+
+module _ (e : Exact) (p : e .part < D) where
+  rounded : remainder e ≡ round binary64 false (e .part) D
+  rounded = quotient (ofInt binary64 (pos (e .part))) (ofInt binary64 (pos D)) (e .part) D (whole-value (pos (e .part)) (omega arith)) (whole-value (pos D) (lit≤ tt)) (lit< tt)
+
+  remainder-fraction : Fraction (remainder e)
+  remainder-fraction = subst Fraction (sym rounded) (fraction (e .part) D (lit< tt) (omega arith))
+
+  remainder-positive : 0 < e .part → 0 < num (remainder e)
+  remainder-positive a =
+      let q = remainder e in
+      let t : T (positive q) = subst (λ (x : Float). T (positive x)) (sym rounded) (plus-positive (e .part) D (lit< tt) (omega arith) (le-trans (lit≤ tt) (mul-le-mul-right (2 ^ low binary64) a))) in
+      value-pos q (num q) (den q) t (den-pos q) (own-value q t)
+
+  pub report-ordinary : natAbs (e .whole) ≤ 2 ^ 53 → T (ordinary (reportOf e))
+  report-ordinary h = sum-ordinary (remainder e) (ofInt binary64 (e .whole)) (below-zero (e .whole)) (natAbs (e .whole)) remainder-fraction (whole-value (e .whole) h) h
+
+  -- a value above zero is reported above zero
+  pub report-positive : natAbs (e .whole) ≤ 2 ^ 53 → pos 0 <ℤ numerator e → T (positive (reportOf e))
+  report-positive h a = go (e .whole) h (omega (integers, numerator-parts e, one-part (e .whole))) (omega (integers, numerator-parts e, natAbs-parts (e .whole)))
+    where
+      go : (z : ℤ) → natAbs z ≤ 2 ^ 53 → negPart z ≡ 0 → 0 < e .part + natAbs z → T (positive (add binary64 (remainder e) (ofInt binary64 z)))
+      go (negsuc n) h none a = absurd (omega arith)
+      go (pos n) h none a = sum-positive (remainder e) (ofInt binary64 (pos n)) n remainder-fraction (whole-value (pos n) h) h
+          (elim (eq-zero-or-pos (e .part)) [ inl z ↦ omega arith | inr b ↦ omega (arith, remainder-positive b) ])

@@ -1,4 +1,4 @@
--- Where rounding to a float gives an ordinary one: finite, and not minus zero. Nothing here is about exact values.
+-- Where rounding to a float gives an ordinary one, finite and not minus zero, and where one above zero. Nothing here is about exact values.
 use mathlib.Core.Path.{refl, sym, subst}
 use Prim.Native.Nat.{ℕ, suc, _+_, _-_, _*_, _/_, _%_, _^_, _≤_, _<_, compare}
 use native.Mathlib.Nat.{mul-one, one-mul, mul-pos, zero-lt-suc}
@@ -10,7 +10,7 @@ use lib.Ieee.Fits.{round-is, down-pos}
 use lib.Ieee.Exact.{HasValue, units-val, round-exact}
 use lib.Ieee.Order.{round-mono}
 use lib.Ieee.Scale.{grid, overflow, finite}
-use lib.Ieee.Positive.{between, value-pos, positive-of-value, first-pos}
+use lib.Ieee.Positive.{positive, between, value-pos, positive-of-value, first-pos}
 
 -- neither a NaN, an infinity nor minus zero
 abbrev pub ordinary : Float → Bool
@@ -74,16 +74,16 @@ module _ (a c : ℕ) (C : 0 < c) (h : a ≤ 2 ^ 54 * c) (l : c ≤ a * 2 ^ low b
   over-least : T (le (round binary64 false 1 (2 ^ low binary64)) (round binary64 false a c))
   over-least = round-mono binary64 1 (2 ^ low binary64) a c (pow-pos (low binary64)) C (subst (λ (z : ℕ). z ≤ a * 2 ^ low binary64) (sym (one-mul c)) l)
 
-  above-zero : 0 < grid binary64 a c
-  above-zero =
-      value-pos (round binary64 false a c) (grid binary64 a c) (2 ^ low binary64)
-      (between (round binary64 false 1 (2 ^ low binary64)) (round binary64 false a c) (round binary64 false (2 ^ 54) 1)
+  pub plus-positive : T (positive (round binary64 false a c))
+  plus-positive =
+      between (round binary64 false 1 (2 ^ low binary64)) (round binary64 false a c) (round binary64 false (2 ^ 54) 1)
       (positive-of-value (round binary64 false 1 (2 ^ low binary64)) 1 (2 ^ low binary64) least-value (zero-lt-suc 0))
       (positive-of-value (round binary64 false (2 ^ 54) 1) (2 ^ 54) 1 roof-value (lit< tt))
       over-least
-      (under-roof a c C h))
-      (pow-pos (low binary64))
-      (rounded-value a c C h false)
+      (under-roof a c C h)
+
+  above-zero : 0 < grid binary64 a c
+  above-zero = value-pos (round binary64 false a c) (grid binary64 a c) (2 ^ low binary64) plus-positive (pow-pos (low binary64)) (rounded-value a c C h false)
 
   pub minus-ordinary : T (ordinary (round binary64 true a c))
   minus-ordinary = go (round binary64 true a c) (rounded-value a c C h true)

@@ -1,17 +1,21 @@
--- Every answer that a call gives is faithful.
-use mathlib.Core.Path.{_≡_, refl, sym, subst}
+-- Every answer that a call gives is faithful, and the change of an *again* is reported above zero.
+use mathlib.Core.Path.{_≡_, refl, sym, ap, _∙_, subst}
 use mathlib.Core.Bool.{Bool, true, false, cond}
 use mathlib.Core.List.{List}
 use Prim.Native.Nat.{ℕ, zero, suc, _*_, _^_, _≤_, _<_, zero-le}
+use lib.Dec.{T}
 use lib.Ieee.{Float}
+use lib.Ieee.Positive.{positive}
 use lib.IntN.{pos, natAbs}
+use Rattle.integers.specs.Parts.{integers}
 use Rattle.exact.specs.declared.Exact.{Exact}
-use Rattle.exact.specs.Numerator.{D, exactOf, Bounded}
+use Rattle.exact.specs.declared.Reported.{Reported}
+use Rattle.exact.specs.Numerator.{D, exactOf, numerator, Bounded}
 use Rattle.exact.specs.Report.{reportedOf}
-use Rattle.exact.specs.Laws.{part-below}
+use Rattle.exact.specs.Laws.{part-below, numerator-exactOf}
 use Rattle.exact.specs.Bounds.{widen}
 use Rattle.exact.specs.Casts.{whole-back, part-back, position-reports}
-use Rattle.exact.specs.Ordinary.{report-ordinary}
+use Rattle.exact.specs.Ordinary.{report-ordinary, report-positive}
 use Rattle.ticks.specs.declared.Sample.{Sample}
 use Rattle.ticks.specs.Samples.{wholeOf}
 use Rattle.axis.specs.declared.Motion.{Motion}
@@ -25,13 +29,15 @@ use Rattle.session.specs.Ready.{PlacedPoint}
 use Rattle.session.proofs.Rules.{waiting}
 use Rattle.session.proofs.Kept.{predicted-point-placed, corrected-point-placed}
 use Rattle.steps.specs.declared.Start.{Start}
+use Rattle.steps.specs.declared.ReportedPoint.{ReportedPoint}
+use Rattle.steps.specs.declared.Correction.the-variants as C
 use Rattle.steps.specs.Answers.{answer, reportedMotion, reportedPoint, reportedChange, noPoint, noChange, openingAnswer, predictionAnswer, correctionAnswer, withdrawalAnswer}
 use Rattle.steps.specs.Faithful.{Faithful, FaithfulMotion, FaithfulPoint, FaithfulAnswer}
 use Rattle.steps.specs.Refusals.{openRefusal, predictRefusal, agrees, largestChange, correctRefusal, withdrawRefusal}
 use Rattle.steps.specs.Steps.{openOf, predictOf, predictAnswerBy, correctOf, correctAnswerBy, withdrawOf}
 use Rattle.steps.proofs.Refusals.{predict-0, correct-0}
 use Rattle.steps.proofs.Answers.{open-answers, predict-answers, correct-answers, withdraw-answers}
-use Rattle.steps.proofs.Changes.{largest-within}
+use Rattle.steps.proofs.Changes.{again-over, largest-within}
 
 -- ---- values
 
@@ -96,3 +102,12 @@ module _ (s : Session) (a : Sample) where
           let p = corrected-point-placed s (wholeOf a) (r .range) in
           by (agrees s corrected) p (change (largestChange s corrected) (largest-within s corrected (waiting s (r .standing)) p))
       go (suc n) e = record { point = no-point; change = no-change }
+
+  -- the change that *again* carries is reported above zero
+  pub again-report-positive : (q : ReportedPoint) (c : Reported) → correctOf s a .answer ≡ C.Again q c → T (positive (c .report))
+  unfolding reportedChange
+  again-report-positive q c e =
+      let (n, (f, h)) = again-over s a q c e in
+      let r : Faithful c = subst (λ t. FaithfulAnswer (correctionAnswer t)) e correct-faithful .change in
+      let g : numerator (c .exact) ≡ pos n = ap (λ t. numerator (t .exact)) f ∙ numerator-exactOf (pos n) in
+      subst (λ x. T (positive x)) (sym (r .report)) (report-positive (c .exact) (r .part) (r .whole) (omega integers))
