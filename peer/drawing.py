@@ -8,7 +8,8 @@ from program import *
 POSITION_BOUND, VELOCITY_BOUND = 2 ** 52, 2 ** 40
 TOLERANCE_MOST, LIMIT_MOST, SAMPLE_MOST, ACCEPTED_MOST = 2 ** 20, 8, 2 ** 28, 1000000
 U64, I64, U32 = 2 ** 64 - 1, 2 ** 63 - 1, 2 ** 32 - 1
-CLOSED, SETTLED, AWAITING = 0, 1, 2
+CLOSED, SETTLED, AWAITING, STARTING = STATES = range(4)
+ACCEPTING, AGAIN, OPENING = 1, 2, 3  # kinds of answer
 PLACES = 9
 PART_PLACES = [what + 1 for what in (FIRST_SUM, SECOND_SUM, POSITION, VELOCITY)]
 UNSIGNED = [0, 1, 2, 8, 9, 10, TOLERANCE_MOST, TOLERANCE_MOST + 1, ACCEPTED_MOST, 2 ** 32,
@@ -58,8 +59,10 @@ class Script:
         elif self.answer.call == 'open' and self.answer.number == 0:
             numbers = [int(n) * PARTS for n in line.split()[4:10]]
             self.present = list(zip(numbers[:3], numbers[3:]))
-        elif self.answer.kind == 1:
-            self.present = [(self.answer.position(a), self.answer.velocity(a)) for a in AXES]
+        elif self.answer.kind in (ACCEPTING, OPENING):
+            newest = self.record()[POINTS] - 1 if self.answer.call in ROUNDS else 0
+            self.present = [(self.answer.position(axis, newest), self.answer.velocity(axis, newest))
+                            for axis in AXES]
         if self.answer and self.answer.number == 0 and self.rng.random() < 0.2:
             entry = (self.record_line, self.present)
             if len(self.seen) < 20:
@@ -117,7 +120,7 @@ class Script:
 
     def neighbour(self, value):
         pattern = struct.unpack('>Q', struct.pack('>d', value))[0]
-        return word(self.near(pattern))
+        return word(max(0, self.near(pattern)))
 
     def usable_float(self):
         """A float that no call refuses, of the session's scale."""

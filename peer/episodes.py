@@ -1,14 +1,17 @@
 """Draws scripts of calls from episodes, each of which leads to some corner of the rules."""
-from records import *
+from starts import *
 from spoiling import spoilt
 
 # One script in so many steps sessions; the others end soon by a line that is no call.
 SESSION_EVERY = 8
-R = Records
-EPISODES = [R.session, R.session, R.session, R.every_number_of_points, R.floats,
-            R.refused_openings, R.far_out, R.nearly_right, R.nearly_right, R.moved_to_bounds,
-            R.moved_to_bounds, R.estimate_at_bounds, R.at_tolerance, R.at_tolerance,
-            R.at_last_point, R.random_fills]
+S = Starts
+EPISODES = [S.session, S.session, S.session, S.every_number_of_points, S.floats,
+            S.refused_openings, S.far_out, S.nearly_right, S.nearly_right, S.moved_to_bounds,
+            S.moved_to_bounds, S.estimate_at_bounds, S.at_tolerance, S.at_tolerance,
+            S.at_last_point, S.random_fills, S.every_start, S.host, S.to_the_limit,
+            S.while_starting, S.later_in_every_state, S.refused_starts, S.refused_rounds,
+            S.starts_headed_out, S.epochs_at_bounds, S.points_at_bounds, S.rounds_at_tolerance,
+            S.nearly_starting, S.nearly_starting]
 
 
 def session_script(script, index):
@@ -30,7 +33,8 @@ def spoilt_script(script, index):
     """A call or two and a line that is no call."""
     rng = script.rng
     lines = [open_line(*script.opening()), correct_line(script.sample()),
-             fill_line(script.random_record(rng.choice((SETTLED, AWAITING))))]
+             start_line(*script.centred()), refine_line(script.sample() * 3),
+             fill_line(script.random_record(rng.choice((SETTLED, AWAITING, STARTING))))]
     for _ in range(rng.randrange(3)):
         script.call(rng.choice(('predict', 'withdraw', *lines)))
     return script.end(spoilt(lines, index, rng))
@@ -38,7 +42,7 @@ def spoilt_script(script, index):
 
 def draw(peer, seed, index):
     """The script of that index, and what the peer writes for it."""
-    script = Records(peer, f'{seed}/{index}')
+    script = Starts(peer, f'{seed}/{index}')
     turn, kind = divmod(index, SESSION_EVERY)
     if kind == 0:
         return session_script(script, turn)

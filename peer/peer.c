@@ -4,16 +4,22 @@
  *   predict
  *   correct F F F
  *   withdraw
+ *   start POINTS TOLERANCE LIMIT X Y Z VX VY VZ F F ..    as open
+ *   refine F F ..                                         0 to 64 floats
  *   fill STATE POINTS TOLERANCE LIMIT ACCEPTED CORRECTIONS, then for each axis
  *        S1 whole, S1 part, S2 whole, S2 part, nine samples newest first,
  *        estimate position whole, part, velocity whole, part
  * Words stand apart by exactly one space, none before the first or after the last. A line ends
  * with a newline and has at most 4,096 bytes before it; what follows the last newline is no call.
  * POINTS TOLERANCE LIMIT ACCEPTED CORRECTIONS are unsigned of 64 bits, parts unsigned of 32 bits,
- * wholes, samples, X Y Z VX VY VZ signed of 64 bits, STATE is 0, 1 or 2. A number is 0, or a digit
- * from 1 to 9 and then digits, a signed one also with - before it (but not -0). A float is the 16
- * digits of its bits, 0 to 9 and a to f. At the first other line `line N: not a call` is written,
- * lines counted from 1, and nothing more is read. */
+ * wholes, samples, X Y Z VX VY VZ signed of 64 bits, STATE is 0, 1, 2 or 3. A number is 0, or a
+ * digit from 1 to 9 and then digits, a signed one also with - before it (but not -0). A float is the
+ * 16 digits of its bits, 0 to 9 and a to f. At the first other line `line N: not a call` is written,
+ * lines counted from 1, and nothing more is read.
+ * A value is written as whole, part and the bits of its report. An answer is the name of its call,
+ * NUMBER and KIND, then
+ *   of a round: the change, then nine points, oldest first, each x, vx, y, vy, z, vz
+ *   of another call: the point x, vx, y, vy, z, vz, then the change */
 #include "rules.h"
 
 #include <inttypes.h>
@@ -95,6 +101,30 @@ static double float_word(struct text *t)
     return value;
 }
 
+/* The floats up to the end of the line; how many. */
+static size_t float_words(struct text *t, double floats[FLOATS_MOST])
+{
+    size_t length = 0;
+    while (t->good && t->at < t->end && length < FLOATS_MOST)
+        floats[length++] = float_word(t);
+    return length;
+}
+
+/* The words of an opening, whose floats go where it keeps them. */
+static struct opening opening_words(struct text *t, double floats[FLOATS_MOST])
+{
+    struct opening given = {.samples = floats};
+    given.points = unsigned_word(t, UINT64_MAX);
+    given.tolerance = unsigned_word(t, UINT64_MAX);
+    given.limit = unsigned_word(t, UINT64_MAX);
+    for (int i = 0; i < AXES; i++)
+        given.position[i] = signed_word(t);
+    for (int i = 0; i < AXES; i++)
+        given.velocity[i] = signed_word(t);
+    given.length = float_words(t, floats);
+    return given;
+}
+
 static struct exact exact_words(struct text *t)
 {
     int64_t whole = signed_word(t);
@@ -123,14 +153,28 @@ static void write_exact(struct exact value)
     printf(" %" PRId64 " %" PRIu32, value.whole, value.part);
 }
 
+static void write_point(const struct motion point[AXES])
+{
+    for (int i = 0; i < AXES; i++) {
+        write_value(point[i].position);
+        write_value(point[i].velocity);
+    }
+}
+
 static void write_answer(const char *call, struct answer a)
 {
     printf("%s %d %d", call, a.number, (int)a.kind);
-    for (int i = 0; i < AXES; i++) {
-        write_value(a.point[i].position);
-        write_value(a.point[i].velocity);
-    }
+    write_point(a.point);
     write_value(a.change);
+    putchar('\n');
+}
+
+static void write_round(const char *call, struct round_answer a)
+{
+    printf("%s %d %d", call, a.number, (int)a.kind);
+    write_value(a.change);
+    for (int k = 0; k < PLACES; k++)
+        write_point(a.points[k]);
     putchar('\n');
 }
 
@@ -155,16 +199,7 @@ static void write_record(const struct record *r)
 static bool do_open(struct record *r, struct text *t)
 {
     double floats[FLOATS_MOST];
-    struct opening given = {.samples = floats};
-    given.points = unsigned_word(t, UINT64_MAX);
-    given.tolerance = unsigned_word(t, UINT64_MAX);
-    given.limit = unsigned_word(t, UINT64_MAX);
-    for (int i = 0; i < AXES; i++)
-        given.position[i] = signed_word(t);
-    for (int i = 0; i < AXES; i++)
-        given.velocity[i] = signed_word(t);
-    while (t->good && t->at < t->end && given.length < FLOATS_MOST)
-        floats[given.length++] = float_word(t);
+    struct opening given = opening_words(t, floats);
     if (!read_whole(t))
         return false;
     write_answer("open", open_session(r, &given));
@@ -198,10 +233,30 @@ static bool do_withdraw(struct record *r, struct text *t)
     return true;
 }
 
+static bool do_start(struct record *r, struct text *t)
+{
+    double floats[FLOATS_MOST];
+    struct opening given = opening_words(t, floats);
+    if (!read_whole(t))
+        return false;
+    write_round("start", first_round(r, &given));
+    return true;
+}
+
+static bool do_refine(struct record *r, struct text *t)
+{
+    double floats[FLOATS_MOST];
+    size_t length = float_words(t, floats);
+    if (!read_whole(t))
+        return false;
+    write_round("refine", later_round(r, floats, length));
+    return true;
+}
+
 static bool do_fill(struct record *r, struct text *t)
 {
     struct record filled;
-    filled.state = unsigned_word(t, AWAITING);
+    filled.state = unsigned_word(t, STARTING);
     filled.points = unsigned_word(t, UINT64_MAX);
     filled.tolerance = unsigned_word(t, UINT64_MAX);
     filled.limit = unsigned_word(t, UINT64_MAX);
@@ -233,6 +288,10 @@ static bool do_line(struct record *r, struct text t)
         done = do_correct(r, &t);
     else if (next_is(&t, "withdraw"))
         done = do_withdraw(r, &t);
+    else if (next_is(&t, "start"))
+        done = do_start(r, &t);
+    else if (next_is(&t, "refine"))
+        done = do_refine(r, &t);
     else if (next_is(&t, "fill"))
         done = do_fill(r, &t);
     if (done)

@@ -10,7 +10,7 @@ HERE = pathlib.Path(__file__).resolve().parent
 TOP = HERE.parent
 OUT = TOP / 'target' / 'peer'
 REPLAY = TOP / 'target' / 'bin' / 'replay'
-SOURCES = ('rules.h', 'rules.c', 'peer.c')
+SOURCES = ('rules.h', 'shared.h', 'rules.c', 'rounds.c', 'peer.c')
 
 PARTS = 159667200
 AXES = range(3)
@@ -69,14 +69,24 @@ def bits(value):
     return struct.pack('>d', value).hex()
 
 
-def open_line(points, tolerance, limit, positions, velocities, floats):
+def open_line(points, tolerance, limit, positions, velocities, floats, call='open'):
     """A line that opens; the floats are words."""
-    return ' '.join(map(str, ['open', points, tolerance, limit,
+    return ' '.join(map(str, [call, points, tolerance, limit,
                               *positions, *velocities, *floats]))
+
+
+def start_line(*opening):
+    """A line of a first round, from the parts of one that opens."""
+    return open_line(*opening, call='start')
 
 
 def correct_line(floats):
     return ' '.join(['correct', *floats])
+
+
+def refine_line(floats):
+    """A line of a later round."""
+    return ' '.join(['refine', *floats])
 
 
 def fill_line(record):
@@ -93,8 +103,11 @@ def axis_at(axis, what):
     return FIRST_AXIS + AXIS_LENGTH * axis + what
 
 
+ROUNDS = ('start', 'refine')
+
+
 class Answer:
-    """An answer line: number, kind, and seven values in parts with the bits of their reports."""
+    """An answer line: number, kind, and values in parts with the bits of their reports."""
 
     def __init__(self, line):
         words = line.decode().split()
@@ -103,8 +116,15 @@ class Answer:
         self.values = [int(w) * PARTS + int(p) for w, p in zip(wholes, parts)]
         self.exact = [(int(w), int(p)) for w, p in zip(wholes, parts)]
 
-    def position(self, axis):
-        return self.values[2 * axis]
+    def position(self, axis, point=0):
+        """Of a step, or of one of a round's points, oldest first."""
+        return self.values[self.at(axis, point)]
 
-    def velocity(self, axis):
-        return self.values[2 * axis + 1]
+    def velocity(self, axis, point=0):
+        return self.values[self.at(axis, point) + 1]
+
+    def at(self, axis, point):
+        return 2 * axis + (6 * point + 1 if self.call in ROUNDS else 0)
+
+    def change(self):
+        return self.values[0 if self.call in ROUNDS else -1]

@@ -11,15 +11,18 @@ class Records(Sessions):
         if found:
             line, present = self.rng.choice(found)
             return record_fields(line), present
-        self.open()
+        if STARTING in states:
+            self.start()
+        else:
+            self.open()
         if AWAITING in states and self.state == SETTLED:
             self.call('predict')
         return self.record(), self.present
 
-    def nearly_right(self):
+    def nearly_right(self, states=(SETTLED, AWAITING)):
         """Records with one field off."""
         for _ in range(10):
-            record, _ = self.some_record((SETTLED, AWAITING))
+            record, _ = self.some_record(states)
             at = self.rng.choice((self.rng.randrange(FIRST_AXIS), self.rng.randrange(len(record)),
                                   axis_at(self.rng.choice(AXES), self.rng.choice(PART_PLACES))))
             record[at] = self.changed(record, at)
@@ -30,14 +33,14 @@ class Records(Sessions):
         """Another value for the field."""
         rng, old = self.rng, record[at]
         if at == STATE:
-            return rng.choice((CLOSED, SETTLED, AWAITING))
+            return rng.choice(STATES)
         if at < FIRST_AXIS:
-            edges = {POINTS: (0, 1, 9, 10), TOLERANCE: (TOLERANCE_MOST, TOLERANCE_MOST + 1),
+            edges = {POINTS: (0, 1, 9, 10, max(0, old - 2), old + 2), TOLERANCE: (TOLERANCE_MOST, TOLERANCE_MOST + 1),
                      LIMIT: (0, 1, 8, 9, record[CORRECTIONS], record[CORRECTIONS] + 1),
                      ACCEPTED: (ACCEPTED_MOST - 1, ACCEPTED_MOST, ACCEPTED_MOST + 1),
                      CORRECTIONS: (0, 1, max(0, record[LIMIT] - 1), record[LIMIT])}
-            return rng.choice((max(0, old - 1), min(U64, old + 1), self.wider(old), U64,
-                               rng.choice(UNSIGNED), *edges[at]))
+            return min(U64, rng.choice((max(0, old - 1), old + 1, self.wider(old), U64,
+                                        rng.choice(UNSIGNED), *edges[at])))
         place = (at - FIRST_AXIS) % AXIS_LENGTH
         if SAMPLES <= place < POSITION and rng.random() < 0.7:
             if place - SAMPLES >= record[POINTS]:
@@ -150,6 +153,8 @@ class Records(Sessions):
     def random_record(self, state):
         """A record with every field in its range, whether or not they fit together."""
         rng = self.rng
+        if state == STARTING:
+            return self.random_start()
         points, limit = rng.randint(1, PLACES), rng.randint(1, LIMIT_MOST)
         waits = state == AWAITING
         record = [state, points, self.size(TOLERANCE_MOST), limit,
@@ -160,16 +165,30 @@ class Records(Sessions):
         for _ in AXES:
             record += [self.signed(VELOCITY_BOUND - 1), rng.randrange(PARTS),
                        self.signed(POSITION_BOUND - 1), rng.randrange(PARTS)]
-            record += [rng.randint(-scale, scale) if i < points else 0 for i in range(PLACES)]
+            record += self.random_samples(points, scale)
             for bound in (POSITION_BOUND, VELOCITY_BOUND):
                 record += [self.signed(bound - 1), rng.randrange(PARTS)] if waits else [0, 0]
         return record
+
+    def random_start(self):
+        """A starting record with every field in its range."""
+        rng = self.rng
+        points, limit = rng.choice(SIZES_WITH_CENTRE), rng.randint(1, LIMIT_MOST)
+        record = [STARTING, points, self.size(TOLERANCE_MOST), limit, 0, rng.randrange(limit)]
+        scale = max(1, self.size(SAMPLE_MOST))
+        for _ in AXES:
+            record += [0] * 4 + self.random_samples(points, scale)
+            record += [self.signed(POSITION_BOUND - 1), 0, self.signed(VELOCITY_BOUND - 1), 0]
+        return record
+
+    def random_samples(self, points, scale):
+        return [self.rng.randint(-scale, scale) if i < points else 0 for i in range(PLACES)]
 
     def random_fills(self):
         """Records filled at random, within their ranges or not at all."""
         rng = self.rng
         for _ in range(5):
-            record = self.random_record(rng.choice((SETTLED, AWAITING)))
+            record = self.random_record(rng.choice((SETTLED, AWAITING, STARTING)))
             kind = rng.randrange(3)
             if kind == 0:
                 for _ in range(rng.randint(1, 4)):
@@ -186,7 +205,7 @@ class Records(Sessions):
 
         def number(edges, most, least=0):
             return rng.choice((rng.choice(edges), rng.randint(least, most)))
-        record = [rng.randrange(3)] + [number(UNSIGNED, U64) for _ in range(5)]
+        record = [rng.choice(STATES)] + [number(UNSIGNED, U64) for _ in range(5)]
         for _ in AXES:
             exact = [[number(SIGNED, I64, -I64 - 1), number(PART, U32)] for _ in range(4)]
             samples = [number(SIGNED, I64, -I64 - 1) for _ in range(PLACES)]

@@ -1,8 +1,7 @@
 /* The rules of the paper: coefficients, rounding, stepping formulas, calls. */
-#include "rules.h"
+#include "shared.h"
 
 #include <math.h>
-#include <stdbool.h>
 #include <stdlib.h>
 #include <string.h>
 
@@ -19,9 +18,9 @@ struct fraction {
     wide top, bottom;
 };
 
-/* c(i) and g(i), l(i) and s(i) times D, at their index. */
-static int64_t adams_corrector[PLACES + 1], adams_predictor[PLACES + 1];
-static int64_t cowell_corrector[PLACES + 2], stormer_predictor[PLACES + 2];
+int64_t adams_corrector[PLACES + 1], cowell_corrector[PLACES + 2];
+/* g(i) and s(i) times D, at their index. */
+static int64_t adams_predictor[PLACES + 1], stormer_predictor[PLACES + 2];
 
 static struct fraction reduced(wide top, wide bottom)
 {
@@ -80,7 +79,7 @@ void prepare(void)
 
 /* Numbers */
 
-static wide parts(struct exact value)
+wide parts(struct exact value)
 {
     return (wide)value.whole * PARTS + value.part;
 }
@@ -115,8 +114,7 @@ static bool rounded(double given, int64_t *ticks)
     return below <= SAMPLE_MOST;
 }
 
-/* The number 4 or 5 if one of the samples calls for it, else 0; ticks takes the rounded ones. */
-static int round_all(const double *given, size_t length, int64_t *ticks)
+int round_all(const double *given, size_t length, int64_t *ticks)
 {
     for (size_t i = 0; i < length; i++)
         if (!isfinite(given[i]))
@@ -139,15 +137,14 @@ static bool velocity_in_range(wide velocity)
     return -bound <= velocity && velocity < bound;
 }
 
-static bool in_range(struct motion m)
+bool in_range(struct motion m)
 {
     return position_in_range(m.position) && velocity_in_range(m.velocity);
 }
 
 /* Stepping formulas */
 
-/* The backward differences of order 0 to points - 1 at the newest sample. */
-static void differences(const int64_t *samples, uint64_t points, int64_t *result)
+void differences(const int64_t *samples, uint64_t points, int64_t *result)
 {
     memcpy(result, samples, points * sizeof *result);
     for (uint64_t order = 1; order < points; order++)
@@ -155,8 +152,7 @@ static void differences(const int64_t *samples, uint64_t points, int64_t *result
             result[i] = result[i - 1] - result[i];
 }
 
-/* The sum of coefficient times difference, from the given coefficient on and from order 0 on. */
-static wide series(const int64_t *coefficients, const int64_t *differences, uint64_t points)
+wide series(const int64_t *coefficients, const int64_t *differences, uint64_t points)
 {
     wide result = 0;
     for (uint64_t order = 0; order < points; order++)
@@ -200,12 +196,39 @@ static void push(int64_t *samples, uint64_t points, int64_t newest)
 
 /* Records */
 
-static struct motion estimate(const struct axis *a)
+bool points_in_range(uint64_t points)
+{
+    return points >= 1 && points <= PLACES;
+}
+
+bool settings_in_range(uint64_t tolerance, uint64_t limit)
+{
+    return tolerance <= TOLERANCE_MOST && limit >= 1 && limit <= LIMIT_MOST;
+}
+
+bool samples_stand(const struct axis *a, uint64_t points)
+{
+    for (uint64_t i = 0; i < PLACES; i++) {
+        int64_t most = i < points ? SAMPLE_MOST : 0;
+        if (a->samples[i] < -most || a->samples[i] > most)
+            return false;
+    }
+    return true;
+}
+
+void hold_samples(struct record *r, const int64_t *ticks)
+{
+    for (int i = 0; i < AXES; i++)
+        for (uint64_t k = 0; k < r->points; k++)
+            push(r->axes[i].samples, r->points, ticks[AXES * k + i]);
+}
+
+struct motion estimate(const struct axis *a)
 {
     return (struct motion){parts(a->position), parts(a->velocity)};
 }
 
-static void set_estimate(struct axis *a, struct motion m)
+void set_estimate(struct axis *a, struct motion m)
 {
     a->position = split(m.position);
     a->velocity = split(m.velocity);
@@ -217,11 +240,8 @@ static bool axis_stands(const struct record *r, const struct axis *a)
     for (int i = 0; i < 4; i++)
         if (values[i].part >= PARTS)
             return false;
-    for (uint64_t i = 0; i < PLACES; i++) {
-        int64_t most = i < r->points ? SAMPLE_MOST : 0;
-        if (a->samples[i] < -most || a->samples[i] > most)
-            return false;
-    }
+    if (!samples_stand(a, r->points))
+        return false;
     struct motion held = estimate(a);
     if (!in_range(present(a, r->points)) || !in_range(held))
         return false;
@@ -232,11 +252,10 @@ static bool axis_stands(const struct record *r, const struct axis *a)
            (held.position == next.position && held.velocity == next.velocity);
 }
 
-/* Whether the record does not count as closed. */
+/* Whether the settled or awaiting record does not count as closed. */
 static bool stands(const struct record *r)
 {
-    if (r->state == CLOSED || r->points < 1 || r->points > PLACES ||
-        r->tolerance > TOLERANCE_MOST || r->limit < 1 || r->limit > LIMIT_MOST ||
+    if (!points_in_range(r->points) || !settings_in_range(r->tolerance, r->limit) ||
         r->accepted > ACCEPTED_MOST)
         return false;
     if (r->state == SETTLED && r->corrections != 0)
@@ -249,8 +268,7 @@ static bool stands(const struct record *r)
     return true;
 }
 
-/* Settled at the last accepted point. */
-static void settle(struct record *r)
+void settle(struct record *r)
 {
     r->state = SETTLED;
     r->corrections = 0;
@@ -272,39 +290,47 @@ static struct answer close_session(struct record *r, int number)
     return bare(number);
 }
 
+struct motion given_point(const struct opening *given, int axis)
+{
+    return (struct motion){(wide)given->position[axis] * PARTS,
+                           (wide)given->velocity[axis] * PARTS};
+}
+
 /* The sums for which the corrected point is the given one. */
-static void open_axis(struct axis *a, uint64_t points, int64_t position, int64_t velocity)
+static void open_axis(struct axis *a, uint64_t points, struct motion point)
 {
     struct motion from_zero = corrected(0, 0, a->samples, points);
-    wide first = (wide)velocity * PARTS - from_zero.velocity;
-    wide before = (wide)position * PARTS - from_zero.position;
+    wide first = point.velocity - from_zero.velocity;
+    wide before = point.position - from_zero.position;
     a->first_sum = split(first);
     a->second_sum = split(before + first);
+}
+
+int refusal_of(const struct opening *given, int64_t *ticks)
+{
+    if (given->length != AXES * given->points)
+        return 2;
+    if (!settings_in_range(given->tolerance, given->limit))
+        return 3;
+    for (int i = 0; i < AXES; i++)
+        if (!in_range(given_point(given, i)))
+            return 6;
+    return round_all(given->samples, given->length, ticks);
 }
 
 struct answer open_session(struct record *r, const struct opening *given)
 {
     int64_t ticks[PLACES * AXES];
-    if (given->points < 1 || given->points > PLACES)
+    if (!points_in_range(given->points))
         return close_session(r, 1);
-    if (given->length != AXES * given->points)
-        return close_session(r, 2);
-    if (given->tolerance > TOLERANCE_MOST || given->limit < 1 || given->limit > LIMIT_MOST)
-        return close_session(r, 3);
-    for (int i = 0; i < AXES; i++)
-        if (!position_in_range((wide)given->position[i] * PARTS) ||
-            !velocity_in_range((wide)given->velocity[i] * PARTS))
-            return close_session(r, 6);
-    int number = round_all(given->samples, given->length, ticks);
+    int number = refusal_of(given, ticks);
     if (number != 0)
         return close_session(r, number);
     *r = (struct record){.state = SETTLED, .points = given->points,
                          .tolerance = given->tolerance, .limit = given->limit};
-    for (int i = 0; i < AXES; i++) {
-        for (uint64_t k = 0; k < given->points; k++)
-            push(r->axes[i].samples, given->points, ticks[AXES * k + i]);
-        open_axis(&r->axes[i], given->points, given->position[i], given->velocity[i]);
-    }
+    hold_samples(r, ticks);
+    for (int i = 0; i < AXES; i++)
+        open_axis(&r->axes[i], given->points, given_point(given, i));
     return bare(0);
 }
 

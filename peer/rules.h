@@ -1,4 +1,4 @@
-/* The session of the paper and its four calls in plain C, to compare the library with. */
+/* The session of the paper and its calls in plain C, to compare the library with. */
 #ifndef RULES_H
 #define RULES_H
 
@@ -10,8 +10,8 @@
 #define PLACES 9
 #define AXES 3
 
-enum state { CLOSED, SETTLED, AWAITING };
-enum kind { NONE, ACCEPTED, AGAIN };
+enum state { CLOSED, SETTLED, AWAITING, STARTING };
+enum kind { NONE, ACCEPTED, AGAIN, OPENED };
 
 /* A number of parts, of any size that can arise. */
 typedef __int128 wide;
@@ -25,11 +25,12 @@ struct exact {
 struct axis {
     struct exact first_sum, second_sum;
     int64_t samples[PLACES]; /* newest first */
-    struct exact position, velocity; /* the estimate */
+    struct exact position, velocity; /* the estimate; while starting the epoch */
 };
 
 struct record {
-    uint64_t state, points, tolerance, limit, accepted, corrections;
+    uint64_t state, points, tolerance, limit, accepted;
+    uint64_t corrections; /* while starting the later rounds */
     struct axis axes[AXES];
 };
 
@@ -45,7 +46,15 @@ struct answer {
     wide change;
 };
 
-/* What open is given; samples oldest point first. */
+/* What a round answers; points oldest first, unused places zero. */
+struct round_answer {
+    int number;
+    enum kind kind;
+    wide change;
+    struct motion points[PLACES][AXES];
+};
+
+/* What open and a first round are given; samples oldest point first. */
 struct opening {
     uint64_t points, tolerance, limit;
     int64_t position[AXES], velocity[AXES];
@@ -60,6 +69,10 @@ struct answer open_session(struct record *r, const struct opening *given);
 struct answer predict(struct record *r);
 struct answer correct(struct record *r, const double sample[AXES]);
 struct answer withdraw(struct record *r);
+
+/* The rounds of a start: the given point is the centre one, later samples come as in the first. */
+struct round_answer first_round(struct record *r, const struct opening *given);
+struct round_answer later_round(struct record *r, const double *samples, size_t length);
 
 /* The exact value of a number of parts, and its report. */
 struct exact split(wide number);

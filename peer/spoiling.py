@@ -1,16 +1,20 @@
 """Lines that are no calls, or hardly are, made from lines that are."""
-from program import bits, open_line
+from program import bits, fill_line, open_line, refine_line, start_line
 
 U64, I64, U32 = 2 ** 64 - 1, 2 ** 63 - 1, 2 ** 32 - 1
 # What takes the place of a number, and of a float.
-NUMBERS = ['', '-', '+1', '-0', '00', '01', '-01', '-1', '3', '1.0', '1e3', '0x1', 'a', '\uff11',
+NUMBERS = ['', '-', '+1', '-0', '00', '01', '-01', '-1', '3', '4', '1.0', '1e3', '0x1', 'a', '\uff11',
            U32 + 1, I64, I64 + 1, -I64 - 1, -I64 - 2, U64, U64 + 1, 2 ** 65, 2 ** 128, -2 ** 64]
 FLOATS = ['', '0', '0' * 15, '0' * 17, 'F' * 16, 'g' * 16, '3fF' + '0' * 13, '-' + '0' * 15]
 # Whole lines.
 LINES = ['', ' ', 'predict ', ' predict', 'predict  ', 'Predict', 'predictpredict', 'predict 0',
          'predict\r', 'predict\t', 'withdrawn', 'withdraw 1', 'withdra', 'fil', 'fill', 'correct',
-         'open', 'close', '#', '\0', 'predict\0',
-         *(open_line(1, 0, 1, [0] * 3, [0] * 3, [bits(0.0)] * count) for count in (64, 65, 66)),
+         'open', 'close', '#', '\0', 'predict\0', 'start', 'start ', 'refine', 'refine ', 'refined',
+         'refine 0',
+         *(line(1, 0, 1, [0] * 3, [0] * 3, [bits(0.0)] * count)
+           for count in (64, 65, 66) for line in (open_line, start_line)),
+         *(fill_line([state] + [0] * 56) for state in (3, 4)),
+         *(refine_line([bits(0.0)] * count) for count in (64, 65, 66)),
          *('predict'.ljust(length) for length in (4095, 4096, 4097, 70000))]
 
 

@@ -33,35 +33,54 @@ def words(floats):
     return ' '.join(struct.pack('>d', x).hex() for x in floats)
 
 
-def main():
-    if len(sys.argv) != 2:
-        sys.exit('make_orbit.py: name the program to make the calls on')
-    program = subprocess.Popen([sys.argv[1]], stdin=subprocess.PIPE, stdout=subprocess.PIPE)
-    lines = []
-
-    def call(line):
-        """Number and kind of the answer, and the position reported."""
-        lines.append(line + '\n')
-        program.stdin.write(lines[-1].encode())
-        program.stdin.flush()
-        answer = program.stdout.readline().split()
-        program.stdout.readline()
-        reports = [struct.unpack('>d', bytes.fromhex(answer[at].decode()))[0] for at in (5, 11, 17)]
-        return int(answer[1]), int(answer[2]), reports
-
+def first_line(call, samples):
+    """The line of an opening or a first round whose point is point 0."""
     position, velocity = ([round(x) for x in part] for part in placed(0))
-    samples = [x for n in range(1 - POINTS, 1) for x in pull(placed(n)[0])]
-    call(' '.join(map(str, ['open', POINTS, TOLERANCE, LIMIT, *position, *velocity, words(samples)])))
+    return ' '.join(map(str, [call, POINTS, TOLERANCE, LIMIT, *position, *velocity, words(samples)]))
+
+
+class Calls:
+    """The calls made so far on the program named as the argument."""
+
+    def __init__(self):
+        if len(sys.argv) != 2:
+            sys.exit(f'{sys.argv[0]}: name the program to make the calls on')
+        self.program = subprocess.Popen([sys.argv[1]], stdin=subprocess.PIPE, stdout=subprocess.PIPE)
+        self.lines = []
+
+    def call(self, line):
+        """The kind of the answer and all its reports; no refusal is expected."""
+        self.lines.append(line + '\n')
+        self.program.stdin.write(self.lines[-1].encode())
+        self.program.stdin.flush()
+        answer = self.program.stdout.readline().decode().split()
+        self.program.stdout.readline()
+        if answer[1] != '0':
+            sys.exit(f'{sys.argv[0]}: refused {answer[1]}')
+        return int(answer[2]), [struct.unpack('>d', bytes.fromhex(word))[0] for word in answer[5::3]]
+
+    def step(self):
+        """Predicts and corrects until the point is accepted; its position."""
+        kind, reports = self.call('predict')
+        while kind != 1:
+            kind, reports = self.call('correct ' + words(pull(reports[0:6:2])))
+        return reports[0:6:2]
+
+    def write(self, name, position, n):
+        """Ends the program, writes the script, and says how far a position is from a point."""
+        self.program.stdin.close()
+        off = math.dist(position, placed(n)[0]) * TICK
+        print(f'{len(self.lines)} calls; {off:.6f} m off the circle at point {n}')
+        (pathlib.Path(__file__).parent / name).write_text(''.join(self.lines))
+
+
+def main():
+    calls = Calls()
+    calls.call(first_line('open', [x for n in range(1 - POINTS, 1) for x in pull(placed(n)[0])]))
     for _ in range(STEPS):
-        number, kind, estimate = call('predict')
-        while number == 0 and kind != 1:
-            number, kind, estimate = call('correct ' + words(pull(estimate)))
-        if number != 0:
-            sys.exit(f'make_orbit.py: refused {number}')
-    program.stdin.close()
-    off = math.dist(estimate, placed(STEPS)[0]) * TICK
-    print(f'{len(lines)} calls; {off:.6f} m off the circle after {STEPS} points')
-    (pathlib.Path(__file__).parent / 'orbit.script').write_text(''.join(lines))
+        position = calls.step()
+    calls.write('orbit.script', position, STEPS)
 
 
-main()
+if __name__ == '__main__':
+    main()

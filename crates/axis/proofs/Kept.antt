@@ -25,7 +25,7 @@ remainders-hold : (a : Axis) → Remainders a → remaindersHold a ≡ true
 unfolding remaindersHold
 remainders-hold a r = simp joined (lt-ltb _ _ (r .first), (lt-ltb _ _ (r .second), (lt-ltb _ _ (r .position), lt-ltb _ _ (r .velocity))))
 
-axis-holds : (p : ℕ) (a : Axis) → Remainders a → placesHold p (a .samples) ≡ true → inRange (presentMotion p a) ≡ true → inRange (a .estimate) ≡ true → axisHolds p a ≡ true
+pub axis-holds : (p : ℕ) (a : Axis) → Remainders a → placesHold p (a .samples) ≡ true → inRange (presentMotion p a) ≡ true → inRange (a .estimate) ≡ true → axisHolds p a ≡ true
 unfolding axisHolds
 axis-holds p a r x m e = rw (remainders-hold a r, x, m, e) refl
 

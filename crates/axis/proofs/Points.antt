@@ -16,10 +16,10 @@ use Rattle.axis.specs.declared.Motion.{Motion}
 use Rattle.axis.specs.declared.Axis.{Axis}
 use Rattle.axis.specs.Formulas.{S1, S2, ticks, motionOf, places, keptSamples, presentMotion, correctedMotion, advancedAxis, openedAxis}
 
-back : (s f : ℤ) → s +ℤ f -ℤ f ≡ s
+pub back : (s f : ℤ) → s +ℤ f -ℤ f ≡ s
 back s f = rw (atom 0 s, atom 1 f) (simp terms (ring _ _ refl))
 
-forth : (x c : ℤ) → x -ℤ c +ℤ c ≡ x
+pub forth : (x c : ℤ) → x -ℤ c +ℤ c ≡ x
 forth x c = rw (atom 0 x, atom 1 c) (simp terms (ring _ _ refl))
 
 -- ---- a formula over p points reads the samples that are kept
@@ -44,7 +44,7 @@ present-advanced p h a x =
     (ap₂ (λ y z. y +ℤ z) (ap₂ (λ y z. y -ℤ z) (numerator-exactOf (S2 a +ℤ s1)) (numerator-exactOf s1) ∙ back (S2 a) s1) (kept-sum PositionCorrector p h x (a .samples)))
     (ap₂ (λ y z. y +ℤ z) (numerator-exactOf s1) (kept-sum VelocityCorrector p h x (a .samples)))
 
-as-given : (m : Motion) → m .position .part < D → m .velocity .part < D → motionOf (numerator (m .position)) (numerator (m .velocity)) ≡ m
+pub as-given : (m : Motion) → m .position .part < D → m .velocity .part < D → motionOf (numerator (m .position)) (numerator (m .velocity)) ≡ m
 unfolding motionOf
 as-given m h k = λ i. record { position = exactOf-numerator (m .position) h i; velocity = exactOf-numerator (m .velocity) k i }
 

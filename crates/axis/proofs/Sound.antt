@@ -41,7 +41,7 @@ placed-in-range m h =
     (bounded-between (2 ^ 52) (m .position) (h .position), bounded-between (2 ^ 40) (m .velocity) (h .velocity))
 
 -- motions that were worked out
-placed-motion : (m n : ℤ) → inRange (motionOf m n) ≡ true → Placed (motionOf m n)
+pub placed-motion : (m n : ℤ) → inRange (motionOf m n) ≡ true → Placed (motionOf m n)
 unfolding motionOf
 placed-motion m n t = placed (motionOf m n) (part-below m) (part-below n) t
 

@@ -6,11 +6,10 @@ use lib.IntN.{ℤ, pos, natAbs, _+ℤ_, _-ℤ_}
 use mir.Syntax.{w64}
 use mir.Val.{SFits, toZ, ofZ}
 use mir.Facts.{toZ-ofZ}
-use Rattle.integers.specs.Parts.{sfits-within, difference-parts}
 use Rattle.integers.specs.Size.{product-sized, sized-fits}
 use Rattle.exact.specs.declared.Exact.{Exact}
 use Rattle.exact.specs.Numerator.{D, exactOf, numerator, Bounded}
-use Rattle.exact.specs.Bounds.{numerator-within, within-bounded, moved-bounded}
+use Rattle.exact.specs.Bounds.{moved-bounded, lowered-bounded}
 use Rattle.axis.specs.Formulas.{motionOf, ticks}
 
 -- ---- a value moved by a call's result
@@ -23,8 +22,7 @@ module _ (e : Exact) (z : ℤ) {w : ℤ} {r : Exact} (f : SFits w64 z) (g : z �
   left-is p = p ∙ ap (λ y. exactOf (numerator e -ℤ y)) (toZ-ofZ f ∙ g)
 
 pub left-bounded : (h : ℕ) (e : Exact) (z : ℤ) {r : Exact} → SFits w64 z → r ≡ exactOf (numerator e -ℤ toZ w64 (ofZ w64 z)) → Bounded h e → Bounded (h + 2 ^ 36) r
-left-bounded h e z f p b =
-    rw (p, toZ-ofZ f) (within-bounded (h + 2 ^ 36) (numerator e -ℤ z) (omega (arith, numerator-within b, sfits-within f, difference-parts (numerator e) z)))
+left-bounded h e z f p b = rw (p, toZ-ofZ f) (lowered-bounded h z b f)
 
 -- ---- a sample in ticks, and a first sum moved by it
 

@@ -12,7 +12,7 @@ ghost use Rattle.axis.specs.Formulas.{ticks, still, presentMotion, predi
 ghost use Rattle.axis.specs.Ready.{Ready, Placed};
 
 // A sum, and a change given by its numerator.
-fn moved(sum: Exact, change: i64) -> Exact
+pub fn moved(sum: Exact, change: i64) -> Exact
     requires { ⌜ Bounded (2 ^ 61) sum ⌝ }
     ensures { λ r. ⌜ r ≡ exactOf (numerator sum +ℤ change) ⌝ }
 {
@@ -43,7 +43,7 @@ pub fn predicted_motion(p: usize, a: Axis) -> Motion
 }
 
 // S1 with one sample more.
-fn next_first(first: Exact, sample: i64) -> Exact
+pub fn next_first(first: Exact, sample: i64) -> Exact
     requires { ⌜ Bounded (2 ^ 42) first ⌝ }
     requires { ⌜ natAbs sample ≤ 2 ^ 28 ⌝ }
     ensures { λ r. ⌜ r ≡ exactOf (numerator first +ℤ ticks sample) ⌝ }
@@ -105,7 +105,7 @@ pub fn advanced_axis(p: usize, a: Axis, sample: i64) -> Axis
 }
 
 // What a change, given by its numerator, leaves of a value.
-fn left_of(value: Exact, change: i64) -> Exact
+pub fn left_of(value: Exact, change: i64) -> Exact
     requires { ⌜ Bounded (2 ^ 52) value ⌝ }
     ensures { λ r. ⌜ r ≡ exactOf (numerator value -ℤ change) ⌝ }
 {

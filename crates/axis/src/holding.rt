@@ -35,7 +35,7 @@ fn place_holds(used: bool, sample: i64) -> bool
     sample == 0
 }
 
-fn places_hold(p: usize, samples: [i64; 9]) -> bool
+pub fn places_hold(p: usize, samples: [i64; 9]) -> bool
     ensures { λ r. ⌜ r ≡ placesHold p samples ⌝ }
 {
     let mut i: usize = 0;

@@ -13,11 +13,15 @@ pub use estimates::with_estimate;
 pub use formulas::advanced_axis;
 pub use formulas::corrected_motion;
 pub use formulas::empty_axis;
+pub use formulas::left_of;
+pub use formulas::moved;
+pub use formulas::next_first;
 pub use formulas::no_motion;
 pub use formulas::opened_axis;
 pub use formulas::predicted_motion;
 pub use formulas::present_motion;
 pub use holding::axis_holds;
+pub use holding::places_hold;
 
 // A position and its velocity.
 pub struct Motion {

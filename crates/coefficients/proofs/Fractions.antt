@@ -1,9 +1,9 @@
 -- Laws of sums of fractions: those that hold as equations, though fractions are not reduced, and those that hold of the values.
 use mathlib.Core.Path.{_≡_, refl, sym, _∙_, ap}
-use Prim.Native.Nat.{ℕ, zero, suc, pred, _*_}
-use native.Mathlib.Nat.{mul-assoc, mul-one}
+use Prim.Native.Nat.{ℕ, zero, suc, pred, _-_, _*_, _≤_}
+use native.Mathlib.Nat.{mul-assoc, mul-comm, mul-one, sub-zero, suc-sub-suc}
 use native.Mathlib.Omega.{arith}
-use lib.IntN.{ℤ, pos, _+ℤ_, _*ℤ_, +ℤ-idr, zero-*ℤ}
+use lib.IntN.{ℤ, pos, _+ℤ_, _*ℤ_, +ℤ-comm, +ℤ-idr, zero-*ℤ}
 use Rattle.integers.specs.Ring.{*ℤ-pos1}
 use Rattle.integers.specs.Order.{*ℤ-cancel-right}
 use Rattle.integers.specs.Parts.{integers}
@@ -39,6 +39,10 @@ module _ (p q r : Fraction) where
   ⊕-assoc : p ⊕ q ⊕ r ≡ p ⊕ (q ⊕ r)
   ⊕-assoc = by-parts tops denominators
 
+pub ⊕-comm : (p q : Fraction) → p ⊕ q ≡ q ⊕ p
+⊕-comm p q =
+    by-parts (+ℤ-comm (p .top *ℤ pos (denominator q)) (q .top *ℤ pos (denominator p))) (ap (λ n. suc (pred n)) (mul-comm (denominator p) (denominator q)))
+
 pub ⊕-zero : (q : Fraction) → q ⊕ pos 0 over 1 ≡ q
 ⊕-zero q = by-parts (rw (*ℤ-pos1 (q .top), zero-*ℤ (pos (denominator q))) (+ℤ-idr (q .top))) (below-line (q .less) 0 ∙ mul-one (denominator q))
 
@@ -47,6 +51,22 @@ pub total-first : (f : ℕ → Fraction) (n : ℕ) → total f (suc n) ≡ f 0 �
 unfolding total
 total-first f zero = refl
 total-first f (suc n) = ap (λ t. t ⊕ f (suc (suc n))) (total-first f n) ∙ ⊕-assoc (f 0) (total (λ k. f (suc k)) n) (f (suc (suc n)))
+
+-- a total of the same terms
+pub total-same : (f g : ℕ → Fraction) (n : ℕ) → ((k : ℕ) → k ≤ n → f k ≡ g k) → total f n ≡ total g n
+unfolding total
+total-same f g zero h = h 0 (omega arith)
+total-same f g (suc n) h = λ i. total-same f g n (λ k l. h k (omega arith)) i ⊕ h (suc n) (omega arith) i
+
+-- a total from its last term on
+pub total-turned : (f : ℕ → Fraction) (n : ℕ) → total f n ≡ total (λ k. f (n - k)) n
+unfolding total
+total-turned f zero = refl
+total-turned f (suc n) =
+    ⊕-comm (total f n) (f (suc n))
+    ∙ (λ i. f (sym (sub-zero (suc n)) i) ⊕ total-turned f n i)
+    ∙ (λ i. f (suc n - 0) ⊕ total (λ k. f (sym (suc-sub-suc n k) i)) n)
+    ∙ sym (total-first (λ k. f (suc n - k)) n)
 
 -- ---- values
 

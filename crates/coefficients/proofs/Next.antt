@@ -9,7 +9,7 @@ use lib.ListN.{take, drop}
 use Rattle.integers.specs.Differences.{at, inFront, bySamples, byDifferences, sizes}
 use Rattle.coefficients.specs.Formulas.{row, weightsOf, olderPart}
 use Rattle.coefficients.specs.declared.Formula.{Formula}
-use Rattle.coefficients.proofs.Rows.{row-law, used-law}
+use Rattle.coefficients.proofs.Rows.{row-law, length-weights, used-law}
 
 -- ---- weights of which the first are skipped
 
@@ -59,4 +59,4 @@ older-used f (suc n) h x =
     ∙ ap (λ us. bySamples us x) (take-drop n (row (weightsOf f) (suc n)))
     ∙ sym (rw (*ℤ-zero (at ws 0)) (+ℤ-idl (bySamples (drop 1 ws) x)))
     ∙ sym (by-front ws (pos 0) x)
-    ∙ used-law f (suc n) (h .1) (inFront (pos 0) x)
+    ∙ used-law (weightsOf f) (suc n) (length-weights f (suc n) (h .1)) (inFront (pos 0) x)

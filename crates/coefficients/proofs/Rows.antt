@@ -43,19 +43,20 @@ unfolding run
 length-run f i zero w = refl
 length-run f i (suc n) w = ap suc (length-run f (suc i) n (later f i n w))
 
-module _ (f : Formula) (p : ℕ) (h : p ≤ 9) where
-  pub length-weights : length (weightsOf f p) ≡ p
-  length-weights =
-      let n : length (run (coefficientOf f) (firstIndex f) 9 (wholeOf f)) ≡ 9 = length-run (coefficientOf f) (firstIndex f) 9 (wholeOf f) in
-      ap length (weights-run f p) ∙ length-take-le p (run (coefficientOf f) (firstIndex f) 9 (wholeOf f)) (omega arith)
+pub length-weights : (f : Formula) (p : ℕ) → p ≤ 9 → length (weightsOf f p) ≡ p
+length-weights f p h =
+    let n : length (run (coefficientOf f) (firstIndex f) 9 (wholeOf f)) ≡ 9 = length-run (coefficientOf f) (firstIndex f) 9 (wholeOf f) in
+    ap length (weights-run f p) ∙ length-take-le p (run (coefficientOf f) (firstIndex f) 9 (wholeOf f)) (omega arith)
 
-  pub length-row : length (ordinates (weightsOf f p)) ≡ p
-  length-row = length-ordinates (weightsOf f p) ∙ length-weights
+-- of a formula that has p weights for p points
+module _ (formula : ℕ → List ℤ) (p : ℕ) (h : length (formula p) ≡ p) where
+  pub length-row : length (ordinates (formula p)) ≡ p
+  length-row = length-ordinates (formula p) ∙ h
 
-  pub take-row : take p (row (weightsOf f) p) ≡ ordinates (weightsOf f p)
+  pub take-row : take p (row formula p) ≡ ordinates (formula p)
   unfolding row
-  take-row = take-at (ordinates (weightsOf f p)) (replicate (9 - p) (pos 0)) p length-row
+  take-row = take-at (ordinates (formula p)) (replicate (9 - p) (pos 0)) p length-row
 
   -- the weights that are used come to it by themselves
-  pub used-law : (x : ℕ → ℤ) → bySamples (take p (row (weightsOf f) p)) x ≡ byDifferences (weightsOf f p) x
-  used-law x = ap (λ ws. bySamples ws x) take-row ∙ ordinates-law (weightsOf f p) x
+  pub used-law : (x : ℕ → ℤ) → bySamples (take p (row formula p)) x ≡ byDifferences (formula p) x
+  used-law x = ap (λ ws. bySamples ws x) take-row ∙ ordinates-law (formula p) x

@@ -41,10 +41,13 @@ computed PositionCorrector = refl
 computed VelocityPredictor = refl
 computed VelocityCorrector = refl
 
+pub weights-written : (f : Formula) (p : ℕ) → weightsOf f p ≡ take p (written f)
+weights-written f p = weights-run f p ∙ ap (take p) (computed f)
+
 -- the row of p points, from the list
 abbrev pub writtenRow : Formula → ℕ → List ℤ
 writtenRow f p = ordinates (take p (written f)) ++ replicate (9 - p) (pos 0)
 
 pub row-written : (f : Formula) (p : ℕ) → row (weightsOf f) p ≡ writtenRow f p
 unfolding row
-row-written f p = ap (λ ws. ordinates ws ++ replicate (9 - p) (pos 0)) (weights-run f p ∙ ap (take p) (computed f))
+row-written f p = ap (λ ws. ordinates ws ++ replicate (9 - p) (pos 0)) (weights-written f p)

@@ -26,6 +26,7 @@ use Rattle.demands.specs.Demands.{sample, secondDifference, SamePoint, A
 use Rattle.demands.specs.BadVersions.{refusing}
 use Rattle.demands.specs.Theorems.{Alike, OfOpenings, refused7}
 use Rattle.demands.proofs.Theorems.{our-calls, any-calls}
+use Rattle.demands.proofs.Rounds.{closed-not-starting}
 use Rattle.demands.proofs.Tables.{agreement, correct-table, withdraw-table}
 use Rattle.demands.proofs.Opens.{number-is, open-begins}
 use Rattle.demands.proofs.Ours.{predict-number, correct-number, withdraw-number}
@@ -115,7 +116,7 @@ no-correction = our-calls .counts .settled (start wide) (begins .held) (round []
 -- ---- a closed record, an open that was refused, the opening samples, and two implementations
 
 refused-7 : (step ours closedSession predict ≡ closedSession) × (event ours closedSession predict ≡ refused7 predict)
-refused-7 = our-calls .closed closedSession closed-fails predict
+refused-7 = our-calls .closed closedSession closed-fails closed-not-starting predict
 
 none-accepted : entries (history ours (start none) (round [])) ≡ []
 none-accepted = our-calls .unopened none (given (number-is none ∙ computed .refused) (λ e. omega arith)) (round []) .1

@@ -17,7 +17,7 @@ use Rattle.session.specs.declared.Session.{Session}
 use Rattle.session.specs.Moves.{presentPoint}
 use Rattle.steps.specs.declared.Correction.the-variants as C
 use Rattle.demands.specs.Coordinates.{Coordinate, positionOf, velocityOf}
-use Rattle.demands.specs.Histories.{ours, Call, Event, predicting, correcting, withdrawing, Entry, after, history, entries, samplesOf}
+use Rattle.demands.specs.Histories.{ours, Call, Event, predicting, correcting, withdrawing, refining, Entry, after, history, entries, samplesOf}
 use Rattle.demands.specs.ClosedForm.{Origin, Begins, samples, firstSum, secondBefore, positionAt, velocityAt, Corrects, Told}
 use Rattle.demands.specs.Demands.{positions, velocities, position, velocity, Unsummed, UnsummedInTicks}
 use Rattle.demands.proofs.Standing.{numerator-position, numerator-velocity, points-most, present-is}
@@ -35,6 +35,7 @@ right o (correcting a (C.Accepted q) ∷ es) t = (t .0, right o es (t .1))
 right o (correcting a (C.Again q c) ∷ es) t = right o es (t .1)
 right o (correcting a (C.Refused n) ∷ es) t = right o es (t .1)
 right o (withdrawing r ∷ es) t = right o es (t .1)
+right o (refining floats r ∷ es) t = right o es (t .1)
 
 -- ---- the unsummed sums, by the corrector's
 

@@ -22,9 +22,10 @@ use Rattle.axis.specs.Estimates.{sameMotion, inRange, changeOf, agreesOn}
 use Rattle.axis.specs.Holding.{remaindersHold, samplesSmall, emptyZero}
 use Rattle.session.specs.declared.Session.{Session}
 use Rattle.session.specs.declared.State.{State}
-use Rattle.session.specs.declared.State.the-variants.{Closed, Settled, Awaiting}
+use Rattle.session.specs.declared.State.the-variants.{Closed, Settled, Awaiting, Starting}
 use Rattle.session.specs.Numbers.{pointsHold, settingsHold}
 use Rattle.session.specs.Moves.{nowhere, presentPoint, estimateOf, predictedPoint, correctedPoint, pointInRange, settledAgain, awaitingAt, acceptedAt, openedSession, closedSession}
+use Rattle.session.specs.Apart.{pointsAgree, pointChange}
 use Rattle.session.specs.Holding.{countsHold, samePoint, settledHolds, estimateBegins, awaitingHolds, holds, settled, awaiting}
 use Rattle.steps.specs.declared.Prediction.{Prediction}
 use Rattle.steps.specs.declared.Opening.the-variants as O
@@ -117,6 +118,7 @@ abbrev pub stateNumber : State → ℕ
 stateNumber Closed = 0
 stateNumber Settled = 1
 stateNumber Awaiting = 2
+stateNumber Starting = 3
 
 -- ---- what the definitions compute there
 
@@ -174,7 +176,7 @@ pub record Computed : Type 0 where
   pub noAgains : agains (start wide .corrections) (history inventingCorrections (start wide) (predict ∷ [])) ≡ 0
 
 pub computed : Computed
-unfolding add div ofInt firstOf byDifferences exactOf numerator sameExact times c g l s total terms next divided run positionPredictor positionCorrector velocityPredictor velocityCorrector unsummedCowell adamsMoulton roundedOf any motionOf still presentMotion predictedMotion correctedMotion keptSamples advancedAxis openedAxis emptyAxis sameMotion inRange changeOf agreesOn remaindersHold samplesSmall emptyZero pointsHold settingsHold nowhere presentPoint estimateOf predictedPoint correctedPoint pointInRange settledAgain awaitingAt acceptedAt openedSession closedSession countsHold samePoint settledHolds estimateBegins awaitingHolds holds settled awaiting reportedMotion reportedPoint reportedChange noPoint noChange wholePoint axisSamples openedWith openRefusal full predictRefusal agrees largestChange isLast correctRefusal withdrawRefusal openOf predictOf correctOf withdrawOf firstSum secondBefore positionAt nextPosition
+unfolding add div ofInt firstOf byDifferences exactOf numerator sameExact times c g l s total terms next divided run positionPredictor positionCorrector velocityPredictor velocityCorrector unsummedCowell adamsMoulton roundedOf any motionOf still presentMotion predictedMotion correctedMotion keptSamples advancedAxis openedAxis emptyAxis sameMotion inRange changeOf agreesOn remaindersHold samplesSmall emptyZero pointsHold settingsHold nowhere presentPoint estimateOf predictedPoint correctedPoint pointInRange pointsAgree pointChange settledAgain awaitingAt acceptedAt openedSession closedSession countsHold samePoint settledHolds estimateBegins awaitingHolds holds settled awaiting reportedMotion reportedPoint reportedChange noPoint noChange wholePoint axisSamples openedWith openRefusal full predictRefusal agrees largestChange isLast correctRefusal withdrawRefusal openOf predictOf correctOf withdrawOf firstSum secondBefore positionAt nextPosition
 computed =
     record {
       opens = refl;

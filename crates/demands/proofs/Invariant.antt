@@ -1,6 +1,6 @@
 -- What a record holds after any calls: the closed form of the accepted samples, and the counts of the history. Withdrawn, repeated and refused calls leave no trace.
-use mathlib.Core.Path.{_≡_, refl, sym, ap, _∙_}
-use mathlib.Core.Logic.{_⊎_, ⊎-elim}
+use mathlib.Core.Path.{_≡_, refl, sym, ap, _∙_, subst}
+use mathlib.Core.Logic.{_⊎_, inl, inr, ⊎-elim}
 use mathlib.Core.Bool.{Bool, true, false, cond}
 use mathlib.Core.List.{List, [], _∷_}
 use Prim.Native.Nat.{ℕ, zero, suc, _+_, _≤_}
@@ -8,6 +8,7 @@ use native.Mathlib.Omega.{arith}
 use native.Mathlib.Nat.{add-zero}
 use native.Mathlib.Numerals.{add-one}
 use lib.Dec.{eqb}
+use lib.Ieee.{Float}
 use lib.ListN.{length}
 use Rattle.integers.specs.Tests.{_and_, joined}
 use Rattle.ticks.specs.declared.Sample.{Sample}
@@ -16,7 +17,7 @@ use Rattle.ticks.specs.Samples.{wholeOf}
 use Rattle.session.specs.declared.Point.{Point}
 use Rattle.session.specs.declared.Session.{Session}
 use Rattle.session.specs.declared.State.the-variants.{Settled, Awaiting}
-use Rattle.session.specs.Moves.{presentPoint, predictedPoint, correctedPoint, settledAgain, awaitingAt, acceptedAt}
+use Rattle.session.specs.Moves.{presentPoint, predictedPoint, correctedPoint, settledAgain, awaitingAt, acceptedAt, closedSession}
 use Rattle.session.specs.Holding.{isSettled, holds, settled}
 use Rattle.session.proofs.Rules.{resting, expecting}
 use Rattle.steps.specs.declared.Prediction.the-variants as P
@@ -27,21 +28,39 @@ use Rattle.steps.specs.Refusals.{predictRefusal, agrees, correctRefusal, withdr
 use Rattle.steps.specs.Steps.{predictBy, predictOf, judged, correctBy, correctOf, withdrawBy, withdrawOf}
 use Rattle.steps.proofs.Refusals.{correct-0}
 use Rattle.steps.proofs.Left.{predict-leaves, correct-leaves, withdraw-leaves}
+use Rattle.starting.specs.Records.{starting}
+use Rattle.rounds.specs.Steps.{refused, refineOf}
+use Rattle.rounds.proofs.Left.{refine-leaves}
 use Rattle.demands.specs.Coordinates.{axisOf}
-use Rattle.demands.specs.Histories.{ours, Call, predict, correct, withdraw, Event, predicting, correcting, withdrawing, step, event, after, history, entries, samplesOf, agains}
+use Rattle.demands.specs.Histories.{ours, Call, predict, correct, withdraw, refine, Event, predicting, correcting, withdrawing, refining, step, event, after, history, entries, samplesOf, agains}
 use Rattle.demands.specs.ClosedForm.{Origin, Begins, originAt, Stands, Tells, Told}
+use Rattle.demands.proofs.Rounds.{not-starting, unrefined, unstarting}
 use Rattle.demands.proofs.Standing.{points-most, begun, settled-stands, awaiting-stands, accepted-stands, predicts, corrects}
 
 -- ---- an open record stays open
 
-pub leaves : (s : Session) (call : Call) → (step ours s call ≡ s) ⊎ (holds (step ours s call) ≡ true)
-leaves s predict = predict-leaves s
-leaves s (correct a) = correct-leaves s a
-leaves s withdraw = withdraw-leaves s
+abbrev Left : Session → Session → Type 0
+Left s t = (t ≡ s) ⊎ ((holds t ≡ true) ⊎ ((starting t ≡ true) ⊎ (t ≡ closedSession)))
+
+open-or-as-it-was : (s t : Session) → (t ≡ s) ⊎ (holds t ≡ true) → Left s t
+open-or-as-it-was s t (inl e) = inl e
+open-or-as-it-was s t (inr h) = inr (inl h)
+
+pub leaves : (s : Session) (call : Call) → Left s (step ours s call)
+leaves s predict = open-or-as-it-was s (step ours s predict) (predict-leaves s)
+leaves s (correct a) = open-or-as-it-was s (step ours s (correct a)) (correct-leaves s a)
+leaves s withdraw = open-or-as-it-was s (step ours s withdraw) (withdraw-leaves s)
+leaves s (refine floats) = refine-leaves s floats
+
+stays-open : (s : Session) → holds s ≡ true → (call : Call) → holds (step ours s call) ≡ true
+stays-open s h predict = ⊎-elim (λ e. ap holds e ∙ h) (λ t. t) (predict-leaves s)
+stays-open s h (correct a) = ⊎-elim (λ e. ap holds e ∙ h) (λ t. t) (correct-leaves s a)
+stays-open s h withdraw = ⊎-elim (λ e. ap holds e ∙ h) (λ t. t) (withdraw-leaves s)
+stays-open s h (refine floats) = ap holds (unstarting s (not-starting s h) floats .0) ∙ h
 
 pub holds-after : (s : Session) → holds s ≡ true → (calls : List Call) → holds (after ours s calls) ≡ true
 holds-after s h [] = h
-holds-after s h (call ∷ calls) = ⊎-elim (λ e. ap holds e ∙ holds-after s h calls) (λ t. t) (leaves (after ours s calls) call)
+holds-after s h (call ∷ calls) = stays-open (after ours s calls) (holds-after s h calls) call
 
 -- ---- the record after calls that began at o with m points accepted and n corrections made, and the history of those calls
 
@@ -150,10 +169,16 @@ module _ (o : Origin) (small : o .points ≤ 9) (m n : ℕ) (s : Session) (es : 
       go zero = settles (withdrawing W.Withdrawn) refl tt
       go (suc r) = unmoved (withdrawing (W.Refused (suc r))) refl refl tt
 
-  one-more : (call : Call) → Invariant o m n (step ours s call) (event ours s call ∷ es)
-  one-more predict = after-predict
-  one-more (correct a) = after-correct a
-  one-more withdraw = after-withdraw
+  -- a later round is refused, since the record is open
+  after-refine : holds s ≡ true → (floats : List Float) → Invariant o m n (refineOf s floats .session) (refining floats (refineOf s floats .answer) ∷ es)
+  after-refine h floats =
+      subst (λ r. Invariant o m n (r .session) (refining floats (r .answer) ∷ es)) (sym (unrefined s (not-starting s h) floats)) (unmoved (refining floats (refused 7)) refl refl tt)
+
+  one-more : holds s ≡ true → (call : Call) → Invariant o m n (step ours s call) (event ours s call ∷ es)
+  one-more h predict = after-predict
+  one-more h (correct a) = after-correct a
+  one-more h withdraw = after-withdraw
+  one-more h (refine floats) = after-refine h floats
 
 -- ---- any calls
 
@@ -170,7 +195,7 @@ invariant o s b [] =
       waiting = λ _. refl;
       resting = rests s (b .held);
     }
-invariant o s b (call ∷ calls) = one-more o (points-most o s b) (s .accepted) (s .corrections) (after ours s calls) (history ours s calls) (invariant o s b calls) call
+invariant o s b (call ∷ calls) = one-more o (points-most o s b) (s .accepted) (s .corrections) (after ours s calls) (history ours s calls) (invariant o s b calls) (holds-after s (b .held) calls) call
 
 -- ---- any record that is open begins at the point where it stands
 

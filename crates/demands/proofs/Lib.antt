@@ -1,7 +1,9 @@
 -- The demands, shown. `Theorems` collects what is shown.
 pub mod Parts
 pub mod Tables
+pub mod TablesOfRounds
 pub mod Standing
+pub mod Rounds
 pub mod Invariant
 pub mod Cowell
 pub mod Alike
@@ -10,6 +12,9 @@ pub mod Ours
 pub mod Unique
 pub mod Openings
 pub mod Examples
+pub mod RoundExamples
+pub mod RoundsTurnedDown
 pub mod TurnedDown
 pub mod Theorems
 pub mod Controls
+pub mod RoundControls

@@ -1,25 +1,24 @@
--- Sessions by their openings: an open begins a history anew, what it opened begins at its origin, and what it closed accepts nothing.
+-- Sessions by their openings: an open and a first round begin a history anew, what was opened begins at its origin, what was closed accepts nothing, and which calls
+-- a starting and an open record refuse.
 use mathlib.Core.Path.{_≡_, refl, sym, ap, _∙_, subst}
-use mathlib.Core.Bool.{false}
+use mathlib.Core.Bool.{true, false}
 use mathlib.Core.List.{List, [], _∷_, _++_, map}
 use Prim.Native.Nat.{_+_}
 use native.Mathlib.Nat.{zero-add}
+use lib.Ieee.{Float}
 use lib.ListN.{length}
-use Rattle.integers.specs.Tests.{clash, fails}
-use Rattle.ticks.specs.Samples.{wholeOf}
 use Rattle.session.specs.declared.Session.{Session}
 use Rattle.session.specs.Moves.{closedSession}
-use Rattle.session.specs.Holding.{holds, settled, awaiting}
-use Rattle.session.proofs.Rules.{settled-holds, awaiting-holds}
+use Rattle.session.specs.Holding.{holds}
 use Rattle.session.proofs.Kept.{closed-fails}
 use Rattle.steps.specs.Answers.{NotZero}
 use Rattle.steps.specs.Opening.{wholePoint}
-use Rattle.steps.specs.Steps.{predictBy, predictOf, correctBy, correctOf, withdrawBy, withdrawOf}
-use Rattle.steps.proofs.Refusals.{predict-7, correct-7, withdraw-7}
-use Rattle.demands.specs.Histories.{Request, Implementation, ours, Call, predict, correct, withdraw, Event, predicting, correcting, withdrawing, step, event, after, history, Act, opening, calling, lived, entries, agains}
-use Rattle.demands.specs.ClosedForm.{Begins, originAt, origin}
-use Rattle.demands.specs.Demands.{openNumber, Demand3, Counts}
-use Rattle.demands.specs.Theorems.{Alike, OfOpenings, refused7}
+use Rattle.starting.specs.Records.{starting}
+use Rattle.demands.specs.Histories.{Request, Implementation, ours, Call, predict, correct, withdraw, refine, Event, step, event, after, history, Act, opening, firstRound, calling, lived, entries, agains}
+use Rattle.demands.specs.ClosedForm.{Begins, originAt, origin, startOrigin}
+use Rattle.demands.specs.Demands.{openNumber, startNumber, Demand3, Counts}
+use Rattle.demands.specs.Theorems.{Alike, OfOpenings, OfStarts, refused7, Plain}
+use Rattle.demands.proofs.Rounds.{not-open, not-starting, closed-not-starting, unopen, unstarting, first-closes}
 use Rattle.demands.proofs.Ours.{demand1}
 
 -- ---- any implementation
@@ -28,6 +27,11 @@ pub anew : (I : Implementation) (s : Session) (r : Request) (calls : List Call) 
     lived I s (map calling calls ++ opening r ∷ earlier) ≡ after I (I .opens r .session) calls
 anew I s r [] earlier = refl
 anew I s r (call ∷ calls) earlier = ap (λ t. step I t call) (anew I s r calls earlier)
+
+pub anew-start : (I : Implementation) (s : Session) (r : Request) (calls : List Call) (earlier : List Act) →
+    lived I s (map calling calls ++ firstRound r ∷ earlier) ≡ after I (I .starts r .session) calls
+anew-start I s r [] earlier = refl
+anew-start I s r (call ∷ calls) earlier = ap (λ t. step I t call) (anew-start I s r calls earlier)
 
 -- requests alike have one origin
 same-origin : (q r : Request) → Alike q r → origin q ≡ origin r
@@ -47,47 +51,67 @@ of-openings I d c =
           c .awaiting (I .opens r .session) (d .begins r e .held) calls w ∙ ap (λ n. agains n (history I (I .opens r .session) calls)) (c .opened r e .1);
     }
 
+pub of-starts : (I : Implementation) → Demand3 I → Counts I → OfStarts I
+of-starts I d c =
+    record {
+      unsummed = λ s floats e calls. d .unsummed (startOrigin s floats) (I .refines s floats .session) (d .started s floats e) calls;
+      accepted = λ s floats e calls.
+          c .accepted (I .refines s floats .session) (d .started s floats e .held) calls
+          ∙ ap (λ n. n + length (entries (history I (I .refines s floats .session) calls))) (c .openedRound s floats e .0)
+          ∙ zero-add _;
+      awaiting = λ s floats e calls w.
+          c .awaiting (I .refines s floats .session) (d .started s floats e .held) calls w
+          ∙ ap (λ n. agains n (history I (I .refines s floats .session) calls)) (c .openedRound s floats e .1);
+      same = λ s floats r e f a calls others g.
+          d .same (startOrigin s floats) (I .refines s floats .session) (I .opens r .session) (d .started s floats e) (subst (λ o. Begins o (I .opens r .session)) (sym a) (d .begins r f)) calls others g;
+    }
+
 -- ---- a record that counts as closed
-
-not-settled : (s : Session) → holds s ≡ false → settled s ≡ false
-not-settled s h = fails (settled s) (λ t. clash (settled-holds s t) h)
-
-not-awaiting : (s : Session) → holds s ≡ false → awaiting s ≡ false
-not-awaiting s h = fails (awaiting s) (λ t. clash (awaiting-holds s t) h)
-
-pub closed : (s : Session) → holds s ≡ false → (call : Call) → (step ours s call ≡ s) × (event ours s call ≡ refused7 call)
-unfolding predictOf correctOf withdrawOf
-closed s h predict =
-    let e = predict-7 s .1 (not-settled s h) in
-    (ap (λ n. predictBy n s .session) e, ap (λ n. predicting (predictBy n s .answer)) e)
-closed s h (correct a) =
-    let e = correct-7 s a .1 (not-awaiting s h) in
-    (ap (λ n. correctBy n s (wholeOf a) .session) e, ap (λ n. correcting a (correctBy n s (wholeOf a) .answer)) e)
-closed s h withdraw =
-    let e = withdraw-7 s .1 (not-awaiting s h) in
-    (ap (λ n. withdrawBy n s .session) e, ap (λ n. withdrawing (withdrawBy n s .answer)) e)
-
-stays : (s : Session) → holds s ≡ false → (calls : List Call) → after ours s calls ≡ s
-stays s h [] = refl
-stays s h (call ∷ calls) = ap (λ t. step ours t call) (stays s h calls) ∙ closed s h call .0
 
 enters-none : (call : Call) (es : List Event) → entries (refused7 call ∷ es) ≡ entries es
 enters-none predict es = refl
 enters-none (correct a) es = refl
 enters-none withdraw es = refl
+enters-none (refine floats) es = refl
 
-accepts-none : (s : Session) → holds s ≡ false → (calls : List Call) → entries (history ours s calls) ≡ []
-accepts-none s h [] = refl
-accepts-none s h (call ∷ calls) =
-    ap (λ t. entries (event ours t call ∷ history ours s calls)) (stays s h calls)
-    ∙ ap (λ e. entries (e ∷ history ours s calls)) (closed s h call .1)
-    ∙ enters-none call (history ours s calls)
-    ∙ accepts-none s h calls
+pub closed : (s : Session) → holds s ≡ false → starting s ≡ false → (call : Call) → (step ours s call ≡ s) × (event ours s call ≡ refused7 call)
+closed s h f predict = unopen s h predict tt
+closed s h f (correct a) = unopen s h (correct a) tt
+closed s h f withdraw = unopen s h withdraw tt
+closed s h f (refine floats) = unstarting s f floats
+
+module _ (s : Session) (h : holds s ≡ false) (f : starting s ≡ false) where
+  stays : (calls : List Call) → after ours s calls ≡ s
+  stays [] = refl
+  stays (call ∷ calls) = ap (λ t. step ours t call) (stays calls) ∙ closed s h f call .0
+
+  accepts-none : (calls : List Call) → entries (history ours s calls) ≡ []
+  accepts-none [] = refl
+  accepts-none (call ∷ calls) =
+      ap (λ t. entries (event ours t call ∷ history ours s calls)) (stays calls)
+      ∙ ap (λ e. entries (e ∷ history ours s calls)) (closed s h f call .1)
+      ∙ enters-none call (history ours s calls)
+      ∙ accepts-none calls
+
+-- closed and zero
+still-closed : (s : Session) → s ≡ closedSession → (calls : List Call) → (after ours s calls ≡ closedSession) × (entries (history ours s calls) ≡ [])
+still-closed s e calls = (
+  ap (λ s. after ours s calls) e ∙ stays closedSession closed-fails closed-not-starting calls,
+  ap (λ s. entries (history ours s calls)) e ∙ accepts-none closedSession closed-fails closed-not-starting calls,
+)
 
 pub unopened : (r : Request) → NotZero (openNumber ours r) → (calls : List Call) →
     (after ours (ours .opens r .session) calls ≡ closedSession) × (entries (history ours (ours .opens r .session) calls) ≡ [])
-unopened r f calls =
-    let e = demand1 .closed r f in (
-      ap (λ s. after ours s calls) e ∙ stays closedSession closed-fails calls,
-      ap (λ s. entries (history ours s calls)) e ∙ accepts-none closedSession closed-fails calls,
-    )
+unopened r f = still-closed (ours .opens r .session) (demand1 .closed r f)
+
+pub unstarted : (r : Request) → NotZero (startNumber ours r) → (calls : List Call) →
+    (after ours (ours .starts r .session) calls ≡ closedSession) × (entries (history ours (ours .starts r .session) calls) ≡ [])
+unstarted r f = still-closed (ours .starts r .session) (first-closes r f)
+
+-- ---- a starting record, and an open one
+
+pub waits : (s : Session) → starting s ≡ true → (call : Call) → Plain call → (step ours s call ≡ s) × (event ours s call ≡ refused7 call)
+waits s t = unopen s (not-open s t)
+
+pub goes-on : (s : Session) → holds s ≡ true → (floats : List Float) → (step ours s (refine floats) ≡ s) × (event ours s (refine floats) ≡ refused7 (refine floats))
+goes-on s h = unstarting s (not-starting s h)

@@ -9,8 +9,10 @@ use borrow.Author.Tests.{eqb-true, eq-eqb, leb-true, leb-false, le-leb}
 use lib.Dec.{eqb, leb}
 use lib.Ieee.{Float, nan, inf, fin, up, down}
 use lib.Ieee.Nearest.{closest}
+use lib.IntN.{natAbs, _-ℤ_}
 use lib.ListN.{length}
 use Rattle.integers.specs.Tests.{_and_, joined, not-true-iff, none-passes, clash, passes, fails}
+use Rattle.exact.specs.Numerator.{D}
 use Rattle.ticks.specs.declared.Rounded.{Rounded}
 use Rattle.ticks.specs.declared.Rounded.the-variants as R
 use Rattle.ticks.specs.declared.Sample.{Sample}
@@ -23,6 +25,7 @@ use Rattle.session.specs.declared.Point.{Point}
 use Rattle.session.specs.declared.Session.{Session}
 use Rattle.session.specs.Numbers.{pointsHold, settingsHold, mostPoints}
 use Rattle.session.specs.Moves.{estimateOf, predictedPoint, correctedPoint, pointInRange}
+use Rattle.session.specs.Apart.{pointsAgree}
 use Rattle.session.specs.Holding.{settled, awaiting}
 use Rattle.session.specs.Ready.{PlacedPoint}
 use Rattle.session.proofs.Rules.{points-hold, settings-hold, axes-in-range}
@@ -31,7 +34,7 @@ use Rattle.steps.specs.Opening.{wholePoint}
 use Rattle.steps.specs.Refusals.{openRules, openRefusal, full, predictRules, predictRefusal, agrees, isLast, correctRules, correctRefusal, withdrawRefusal}
 use Rattle.steps.proofs.Given.{start-placed}
 use Rattle.steps.proofs.Refusals.{open-1, open-2, open-3, open-4, open-5, open-6, predict-6, predict-7, predict-9, correct-4, correct-5, correct-6, correct-7, correct-8, withdraw-0, withdraw-7}
-use Rattle.demands.specs.Coordinates.{onX, onY, onZ}
+use Rattle.demands.specs.Coordinates.{Coordinate, onX, onY, onZ, positionOf}
 use Rattle.demands.specs.Histories.{Request}
 use Rattle.demands.specs.Refusals.{Exactly, Some, NotFinite, TooLarge, Within, Last, openTable, predictTable, correctTable, withdrawTable}
 
@@ -41,11 +44,11 @@ pub record Decides (t : Bool) (A : Type 0) : Type 0 where
   pub yes : (t ≡ true) ↔ A
   pub no : (t ≡ false) ↔ (¬ A)
 
-decides : {t : Bool} {A : Type 0} → (t ≡ true) ↔ A → Decides t A
+pub decides : {t : Bool} {A : Type 0} → (t ≡ true) ↔ A → Decides t A
 decides {t} f = record { yes = f; no = ((λ e a. clash (f .1 a) e), (λ n. fails t (λ e. n (f .0 e)))) }
 
 -- where a rule is that a test fails: the test passed, and the test failed
-passed : {t : Bool} {A : Type 0} → Decides t A → (t ≡ true) ↔ (¬ ¬ A)
+pub passed : {t : Bool} {A : Type 0} → Decides t A → (t ≡ true) ↔ (¬ ¬ A)
 passed {t} d = ((λ e n. n (d .yes .0 e)), (λ f. passes t (λ e. f (d .no .0 e))))
 
 -- ---- floats
@@ -108,47 +111,56 @@ unfit-any (x ∷ xs) = regroup (isNotANumber (roundedOf x)) (isInfinite (rounded
     regroup false true false d = refl
     regroup false false c d = refl
 
-unfit : (xs : List Float) → Decides (any isNotANumber xs || any isInfinite xs) (Some NotFinite xs)
+pub unfit : (xs : List Float) → Decides (any isNotANumber xs || any isInfinite xs) (Some NotFinite xs)
 unfit xs = rw (unfit-any xs) (any-decides (λ r. isNotANumber r || isInfinite r) NotFinite not-finite xs)
 
-large : (xs : List Float) → Decides (any isTooLarge xs) (Some TooLarge xs)
+pub large : (xs : List Float) → Decides (any isTooLarge xs) (Some TooLarge xs)
 large = any-decides isTooLarge TooLarge too-large
 
 -- ---- points
 
-range : (q : Point) → (pointInRange q ≡ true → PlacedPoint q) → Decides (pointInRange q) (PlacedPoint q)
+pub range : (q : Point) → (pointInRange q ≡ true → PlacedPoint q) → Decides (pointInRange q) (PlacedPoint q)
 range q f = decides (f, (λ h. axes-in-range q .1 (placed-in-range (q .x) (h .on-x), (placed-in-range (q .y) (h .on-y), placed-in-range (q .z) (h .on-z)))))
 
-agreeing : (s : Session) (q : Point) → agrees s q ≡ true → Within s q
-unfolding agrees changeOf estimateOf
-agreeing s q e onX = let (x, (y, z)) = simp joined at e in agrees-iff (s .tolerance) (q .x) (s .x .estimate) .0 x
-agreeing s q e onY = let (x, (y, z)) = simp joined at e in agrees-iff (s .tolerance) (q .y) (s .y .estimate) .0 y
-agreeing s q e onZ = let (x, (y, z)) = simp joined at e in agrees-iff (s .tolerance) (q .z) (s .z .estimate) .0 z
+-- on each axis the change is at most the tolerance
+abbrev pub Near : ℕ → Point → Point → Type 0
+Near tolerance q before = (k : Coordinate) → natAbs (positionOf k q -ℤ positionOf k before) ≤ tolerance * D
 
-within : (s : Session) (q : Point) → Within s q → agrees s q ≡ true
-unfolding agrees changeOf estimateOf
-within s q h =
-    simp joined (
-      agrees-iff (s .tolerance) (q .x) (s .x .estimate) .1 (h onX),
-      (agrees-iff (s .tolerance) (q .y) (s .y .estimate) .1 (h onY), agrees-iff (s .tolerance) (q .z) (s .z .estimate) .1 (h onZ)),
-    )
+module _ (tolerance : ℕ) (q before : Point) where
+  agreeing : pointsAgree tolerance q before ≡ true → Near tolerance q before
+  unfolding pointsAgree changeOf
+  agreeing e onX = let (x, (y, z)) = simp joined at e in agrees-iff tolerance (q .x) (before .x) .0 x
+  agreeing e onY = let (x, (y, z)) = simp joined at e in agrees-iff tolerance (q .y) (before .y) .0 y
+  agreeing e onZ = let (x, (y, z)) = simp joined at e in agrees-iff tolerance (q .z) (before .z) .0 z
+
+  near : Near tolerance q before → pointsAgree tolerance q before ≡ true
+  unfolding pointsAgree changeOf
+  near h =
+      simp joined (
+        agrees-iff tolerance (q .x) (before .x) .1 (h onX),
+        (agrees-iff tolerance (q .y) (before .y) .1 (h onY), agrees-iff tolerance (q .z) (before .z) .1 (h onZ)),
+      )
+
+  pub apart : Decides (pointsAgree tolerance q before) (Near tolerance q before)
+  apart = decides (agreeing, near)
 
 pub agreement : (s : Session) (q : Point) → Decides (agrees s q) (Within s q)
-agreement s q = decides (agreeing s q, within s q)
+unfolding agrees
+agreement s q = apart (s .tolerance) q (estimateOf s)
 
 -- ---- the tables
 
 module _ (r : Request) where
-  points : Decides (pointsHold (r .points)) ((1 ≤ r .points) × (r .points ≤ 9))
+  pub points : Decides (pointsHold (r .points)) ((1 ≤ r .points) × (r .points ≤ 9))
   points = decides (points-hold (r .points))
 
-  enough : Decides (eqb (length (r .floats)) (3 * r .points)) (length (r .floats) ≡ 3 * r .points)
+  pub enough : Decides (eqb (length (r .floats)) (3 * r .points)) (length (r .floats) ≡ 3 * r .points)
   enough = decides (eqb-true (length (r .floats)) (3 * r .points), eq-eqb (length (r .floats)) (3 * r .points))
 
-  settings : Decides (settingsHold (r .tolerance) (r .limit)) ((r .tolerance ≤ 1048576) × ((1 ≤ r .limit) × (r .limit ≤ 8)))
+  pub settings : Decides (settingsHold (r .tolerance) (r .limit)) ((r .tolerance ≤ 1048576) × ((1 ≤ r .limit) × (r .limit ≤ 8)))
   settings = decides (settings-hold (r .tolerance) (r .limit))
 
-  start : Decides (pointInRange (wholePoint (r .start))) (PlacedPoint (wholePoint (r .start)))
+  pub start : Decides (pointInRange (wholePoint (r .start))) (PlacedPoint (wholePoint (r .start)))
   start = range (wholePoint (r .start)) (start-placed (r .start))
 
   pub open-table : Exactly (openTable r) (openRefusal (r .points) (r .tolerance) (r .limit) (r .start) (r .floats))
@@ -198,7 +210,7 @@ predict-table s =
 awaited : (s : Session) → Decides (awaiting s) (awaiting s ≡ true)
 awaited s = decides Iff·rfl
 
-last : (s : Session) → Decides (isLast s) (Last s)
+pub last : (s : Session) → Decides (isLast s) (Last s)
 unfolding isLast
 last s = decides (leb-true (s .limit) (s .corrections + 1), le-leb (s .limit) (s .corrections + 1))
 

@@ -4,7 +4,7 @@ use Rattle.demands.proofs.Ours.{demand1, demand2, formulas, demand3, co
 use Rattle.demands.proofs.Cowell.{in-ticks}
 use Rattle.demands.proofs.Alike.{same-next}
 use Rattle.demands.proofs.Opens.{opening-sample}
-use Rattle.demands.proofs.Openings.{anew, of-openings, closed, unopened}
+use Rattle.demands.proofs.Openings.{anew, anew-start, of-openings, of-starts, closed, unopened, unstarted, waits, goes-on}
 use Rattle.demands.proofs.Unique as U
 use Rattle.demands.proofs.TurnedDown as T
 
@@ -19,12 +19,15 @@ our-calls =
       leaves = leave;
       inTicks = in-ticks;
       sameNext = λ o s t b d m calls others e f g. same-next o s t b d calls others e m f g;
+      waits = waits;
+      goesOn = goes-on;
       closed = closed;
       unopened = unopened;
+      unstarted = unstarted;
     }
 
 pub any-calls : AnyCalls
-any-calls = record { anew = anew; openings = of-openings; openingSample = opening-sample; unique = U.unique }
+any-calls = record { anew = anew; anewStart = anew-start; openings = of-openings; starts = of-starts; openingSample = opening-sample; unique = U.unique }
 
 pub turned-down : TurnedDown
 turned-down = T.turned-down

@@ -14,7 +14,7 @@ use Rattle.steps.specs.declared.Prediction.the-variants as P
 use Rattle.steps.specs.Answers.{noPoint, reportedPoint, predictionAnswer}
 use Rattle.steps.specs.Steps.{predictOf}
 use Rattle.demands.specs.Coordinates.{onX}
-use Rattle.demands.specs.Histories.{Call, predict, correct, withdraw, predicting, correcting, after, history, entries, samplesOf}
+use Rattle.demands.specs.Histories.{Call, predict, correct, withdraw, refine, predicting, correcting, after, history, entries, samplesOf}
 use Rattle.demands.specs.Refusals.{Exactly, Unrefused, openTable, predictTable}
 use Rattle.demands.specs.ClosedForm.{Origin, Begins, origin, Predicts, Corrects, Tells}
 use Rattle.demands.specs.Demands.{Unsummed, Demand1, Demand2, Formulas, Demand3, Counts, Leaves}
@@ -24,6 +24,7 @@ use Rattle.demands.proofs.Tables.{open-table, predict-table}
 use Rattle.demands.proofs.Opens.{open-begins}
 use Rattle.demands.proofs.Alike.{same-point}
 use Rattle.demands.proofs.Ours.{demand1}
+use Rattle.demands.proofs.RoundsTurnedDown as R
 use Rattle.demands.proofs.Examples.{wide, start, a24, round, repeatingOnce, repeatingWaits, predicted, stateNumber, computed}
 
 clash : _≡_ {A = ℕ} 0 1 → ⊥
@@ -108,12 +109,14 @@ accepts-none s [] = refl
 accepts-none s (predict ∷ calls) = accepts-none s calls
 accepts-none s (correct a ∷ calls) = accepts-none s calls
 accepts-none s (withdraw ∷ calls) = accepts-none s calls
+accepts-none s (refine floats ∷ calls) = accepts-none s calls
 
 stays : (s : Session) (calls : List Call) → after refusing s calls ≡ s
 stays s [] = refl
 stays s (predict ∷ calls) = stays s calls
 stays s (correct a ∷ calls) = stays s calls
 stays s (withdraw ∷ calls) = stays s calls
+stays s (refine floats ∷ calls) = stays s calls
 
 unsummed-none : (o : Origin) → Unsummed o []
 unsummed-none o = record { cowell = λ k n l h. absurd (omega arith); adams = λ k n l h. absurd (omega arith) }
@@ -122,6 +125,7 @@ refusing3 : Demand3 refusing
 refusing3 =
     record {
       begins = λ r e. absurd (clash (cc));
+      started = λ s floats e. absurd (clash (cc));
       unsummed = λ o s b calls. subst (Unsummed o) (sym (accepts-none s calls)) (unsummed-none o);
       same = λ o s t b d calls others e.
           record {
@@ -146,6 +150,13 @@ predictingZero1 =
       settled = demand1 .settled;
       uncorrected = demand1 .uncorrected;
       unwithdrawn = demand1 .unwithdrawn;
+      starts = demand1 .starts;
+      refines = demand1 .refines;
+      unstarted = demand1 .unstarted;
+      ended = demand1 .ended;
+      unrefined = demand1 .unrefined;
+      blankStart = demand1 .blankStart;
+      blankRound = demand1 .blankRound;
     }
 
 pub turned-down : TurnedDown
@@ -162,6 +173,10 @@ turned-down =
       inventingPointsCounts = inventingPointsCounts;
       inventingPointsLast = inventingPointsLast;
       inventingCorrectionsCounts = inventingCorrectionsCounts;
+      openingAtOnce2 = R.openingAtOnce2;
+      openingAtOnceLeaves = R.openingAtOnceLeaves;
+      openingAnyhow2 = R.openingAnyhow2;
+      neverCountingCounts = R.neverCountingCounts;
       refusing3 = refusing3;
       predictingZero1 = predictingZero1;
     }

@@ -7,11 +7,15 @@ use Prim.Native.Nat.{ℕ, zero, suc}
 use native.Mathlib.Omega.{arith}
 use native.Mathlib.Nat.{suc-ne-zero}
 use lib.Dec.{eqb}
+use lib.Ieee.{Float}
 use borrow.Author.Tests.{eqb-true, eqb-false}
 use Rattle.ticks.specs.declared.Sample.{Sample}
 use Rattle.ticks.specs.Samples.{wholeOf}
 use Rattle.session.specs.declared.Session.{Session}
 use Rattle.session.specs.Moves.{correctedPoint, settledAgain, closedSession}
+use Rattle.starting.specs.Rounds.{roundsAgree}
+use Rattle.starting.specs.Records.{heldRound}
+use Rattle.steps.specs.declared.ReportedPoint.{ReportedPoint}
 use Rattle.steps.specs.declared.Opening.{Opening}
 use Rattle.steps.specs.declared.Prediction.{Prediction}
 use Rattle.steps.specs.declared.Correction.{Correction}
@@ -24,10 +28,18 @@ use Rattle.steps.specs.Answers.{openingAnswer, predictionAnswer, correctionAnsw
 use Rattle.steps.specs.Refusals.{predictRefusal, agrees, correctRefusal, withdrawRefusal}
 use Rattle.steps.proofs.Rules.{Among}
 use Rattle.steps.proofs.Refusals.{open-numbers, predict-numbers, correct-numbers, withdraw-numbers}
+use Rattle.rounds.specs.declared.Outcome.{Outcome}
+use Rattle.rounds.specs.declared.RoundAnswer.{RoundAnswer}
+use Rattle.rounds.specs.declared.Outcome.the-variants as R
+use Rattle.rounds.specs.Answers.{noPoints, outcomeValues, roundAnswer}
+use Rattle.rounds.specs.Refusals.{laterRound, refineRefusal}
+use Rattle.rounds.specs.Steps.{refused}
+use Rattle.rounds.proofs.Refusals.{refine-numbers}
 use Rattle.demands.specs.Histories.{Request, Implementation}
-use Rattle.demands.specs.Refusals.{Rule, Continues, Exactly, Unrefused, openTable, predictTable, correctTable, withdrawTable}
-use Rattle.demands.specs.Demands.{openNumber, predictNumber, correctNumber, withdrawNumber, Demand1, Demand2, Agree}
+use Rattle.demands.specs.Refusals.{Rule, Continues, Exactly, Unrefused, openTable, predictTable, correctTable, withdrawTable, startTable, refineTable}
+use Rattle.demands.specs.Demands.{openNumber, predictNumber, correctNumber, withdrawNumber, startNumber, refineNumber, Demand1, Demand2, Agree}
 use Rattle.demands.proofs.Tables.{agreement, open-table, predict-table, correct-table, withdraw-table}
+use Rattle.demands.proofs.TablesOfRounds.{one-first, start-refusal, start-table, start-none, round-agreement, refine-table}
 use Rattle.demands.proofs.Opens.{refusal}
 
 -- ---- a table gives one number
@@ -68,6 +80,15 @@ withdrawal-refused : (a : Withdrawal) (n : ℕ) → withdrawalAnswer a .number �
 withdrawal-refused W.Withdrawn n e = absurd (omega arith)
 withdrawal-refused (W.Refused m) n e = ap W.Refused e
 
+-- a refused round's answer is its number, and has no points
+outcome-refused : (a : Outcome) (ps : List ReportedPoint) (n : ℕ) → outcomeValues a ps .number ≡ suc n → a ≡ R.Refused (suc n)
+outcome-refused (R.More c) ps n e = absurd (omega arith)
+outcome-refused R.Opened ps n e = absurd (omega arith)
+outcome-refused (R.Refused m) ps n e = ap R.Refused e
+
+round-refused : (a : RoundAnswer) (n : ℕ) → roundAnswer a .number ≡ suc n → a .points ≡ noPoints → a ≡ refused (suc n)
+round-refused a n e b = λ i. record { outcome = outcome-refused (a .outcome) (a .points) n e i; points = b i }
+
 -- a number that is given
 given : {m n : ℕ} → m ≡ suc n → NotZero m
 given e z = suc-ne-zero _ (sym e ∙ z)
@@ -86,6 +107,12 @@ module _ (I : Implementation) (d : Demand1 I) where
 
   withdrawal-number : (s : Session) → withdrawNumber I s ≡ withdrawRefusal s
   withdrawal-number s = one-number (withdrawTable s) (withdrawNumber I s) (withdrawRefusal s) (withdraw-numbers s) (withdraw-table s) (d .withdraws s)
+
+  first-round-number : (r : Request) → startNumber I r ≡ start-refusal r
+  first-round-number r = one-first (startTable r) (startNumber I r) (start-refusal r) (start-table r) (d .starts r)
+
+  later-round-number : (s : Session) (floats : List Float) → refineNumber I s floats ≡ refineRefusal s floats
+  later-round-number s floats = one-number (refineTable s floats) (refineNumber I s floats) (refineRefusal s floats) (refine-numbers s floats) (refine-table s floats) (d .refines s floats)
 
   -- what a refusal of the table's number n + 1 leaves and answers
   refused-opening : (r : Request) (n : ℕ) → refusal r ≡ suc n → I .opens r ≡ record { session = closedSession; answer = O.Refused (suc n) }
@@ -113,6 +140,21 @@ module _ (I : Implementation) (d : Demand1 I) where
       left true e = d .settled s a (m ∙ eqb-true (suc n) 8 e)
       left false e = d .uncorrected s a (given m) (λ f. eqb-false (suc n) 8 e (sym m ∙ f))
 
+  refused-first-round : (r : Request) (n : ℕ) → start-refusal r ≡ suc n → I .starts r ≡ record { session = closedSession; answer = refused (suc n) }
+  refused-first-round r n h =
+      let m = first-round-number r ∙ h in
+      λ i. record { session = d .unstarted r (given m) i; answer = round-refused (I .starts r .answer) n m (d .blankStart r (given m)) i }
+
+  refused-later-round : (s : Session) (floats : List Float) (n : ℕ) → refineRefusal s floats ≡ suc n → I .refines s floats ≡ record { session = cond (eqb (suc n) 8) closedSession s; answer = refused (suc n) }
+  refused-later-round s floats n h = λ i. record { session = left (eqb (suc n) 8) refl i; answer = round-refused (I .refines s floats .answer) n m (d .blankRound s floats (given m)) i }
+    where
+      m : refineNumber I s floats ≡ suc n
+      m = later-round-number s floats ∙ h
+
+      left : (t : Bool) → eqb (suc n) 8 ≡ t → I .refines s floats .session ≡ cond t closedSession s
+      left true e = d .ended s floats (m ∙ eqb-true (suc n) 8 e)
+      left false e = d .unrefined s floats (given m) (λ f. eqb-false (suc n) 8 e (sym m ∙ f))
+
 -- ---- two implementations
 
 module _ (I J : Implementation) (d : Demand1 I) (e : Demand2 I) (f : Demand1 J) (g : Demand2 J) where
@@ -136,6 +178,20 @@ module _ (I J : Implementation) (d : Demand1 I) (e : Demand2 I) (f : Demand1 J) 
   same-withdrawal s zero h = let (_, none) = withdraw-table s in e .withdraws s (none .0 h) ∙ sym (g .withdraws s (none .0 h))
   same-withdrawal s (suc n) h = refused-withdrawal I d s n h ∙ sym (refused-withdrawal J f s n h)
 
+  same-first-round : (r : Request) (n : ℕ) → start-refusal r ≡ n → I .starts r ≡ J .starts r
+  same-first-round r zero h = let u = start-none r .0 h in e .starts r u ∙ sym (g .starts r u)
+  same-first-round r (suc n) h = refused-first-round I d r n h ∙ sym (refused-first-round J f r n h)
+
+  same-round-judgement : (s : Session) (floats : List Float) → Unrefused (refineTable s floats) → (t : Bool) → roundsAgree (s .tolerance) (laterRound s floats) (heldRound s) ≡ t → I .refines s floats ≡ J .refines s floats
+  same-round-judgement s floats u true h = let w = round-agreement s floats .yes .0 h in e .opensRound s floats u w ∙ sym (g .opensRound s floats u w)
+  same-round-judgement s floats u false h = let w = round-agreement s floats .no .0 h in e .asksMore s floats u w ∙ sym (g .asksMore s floats u w)
+
+  same-later-round : (s : Session) (floats : List Float) (n : ℕ) → refineRefusal s floats ≡ n → I .refines s floats ≡ J .refines s floats
+  same-later-round s floats zero h =
+      let (_, (_, (_, (_, (_, (_, none)))))) = refine-table s floats in
+      same-round-judgement s floats (none .0 h) (roundsAgree (s .tolerance) (laterRound s floats) (heldRound s)) refl
+  same-later-round s floats (suc n) h = refused-later-round I d s floats n h ∙ sym (refused-later-round J f s floats n h)
+
   pub unique : Agree I J
   unique =
       record {
@@ -143,4 +199,6 @@ module _ (I J : Implementation) (d : Demand1 I) (e : Demand2 I) (f : Demand1 J) 
         predicts = λ s. same-prediction s (predictRefusal s) refl;
         corrects = λ s a. same-correction s a (correctRefusal s a) refl;
         withdraws = λ s. same-withdrawal s (withdrawRefusal s) refl;
+        starts = λ r. same-first-round r (start-refusal r) refl;
+        refines = λ s floats. same-later-round s floats (refineRefusal s floats) refl;
       }

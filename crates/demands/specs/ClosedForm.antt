@@ -5,6 +5,7 @@ use mathlib.Core.Bool.{true}
 use mathlib.Core.List.{List, [], _∷_}
 use Prim.Native.Nat.{ℕ, _<_}
 use lib.IntN.{ℤ, _+ℤ_, _-ℤ_}
+use lib.Ieee.{Float}
 use Rattle.integers.specs.Differences.{at, inFront, byDifferences}
 use Rattle.coefficients.specs.Formulas.{positionPredictor, positionCorrector, velocityPredictor, velocityCorrector}
 use Rattle.ticks.specs.declared.WholeSample.{WholeSample}
@@ -18,8 +19,10 @@ use Rattle.steps.specs.declared.ReportedPoint.{ReportedPoint}
 use Rattle.steps.specs.declared.Prediction.the-variants as P
 use Rattle.steps.specs.declared.Correction.the-variants as C
 use Rattle.steps.specs.Opening.{wholePoint, axisSamples}
+use Rattle.starting.specs.Rounds.{earlierPoint}
+use Rattle.rounds.specs.Refusals.{laterRound}
 use Rattle.demands.specs.Coordinates.{Coordinate, onX, onY, onZ, axisOf, ticksOn, positionOf, velocityOf, positionIn, velocityIn}
-use Rattle.demands.specs.Histories.{Request, Event, predicting, correcting, withdrawing, entries, samplesOf}
+use Rattle.demands.specs.Histories.{Request, Event, predicting, correcting, withdrawing, refining, entries, samplesOf}
 
 -- ---- an opening, whatever way it was made: p, the exact position and velocity of point 0, and the samples a(0), a(-1), .., a(1-p)
 
@@ -52,6 +55,10 @@ openingSamples r k = axisSamples (r .points) (place k) (r .floats)
 -- the opening that an `open` asks for
 abbrev pub origin : Request → Origin
 origin r = originAt (r .points) (wholePoint (r .start)) (openingSamples r)
+
+-- the opening that a later round gives where it opens: the round's newest point, and its samples
+abbrev pub startOrigin : Session → List Float → Origin
+startOrigin s floats = originAt (s .points) (earlierPoint (laterRound s floats) 0) (λ k. axisSamples (s .points) (place k) floats)
 
 -- ---- the sums and the points, with the samples ws accepted since
 
@@ -117,6 +124,7 @@ Tells o ws (correcting a (C.Accepted q)) = Corrects o (wholeOf a ∷ ws) q
 Tells o ws (correcting a (C.Again q c)) = Corrects o (wholeOf a ∷ ws) q
 Tells o ws (correcting a (C.Refused n)) = Unit {0}
 Tells o ws (withdrawing r) = Unit {0}
+Tells o ws (refining floats r) = Unit {0}
 
 -- every answer carries the formulas' point for the samples accepted before it
 abbrev pub Told : Origin → List Event → Type 0

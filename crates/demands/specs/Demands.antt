@@ -1,10 +1,11 @@
--- The three demands of the order, and the counts, of any implementation of the four calls. Definitions only.
+-- The three demands of the order, and the counts, of any implementation of the six calls. Definitions only.
 use mathlib.Core.Path.{_≡_}
 use mathlib.Core.Bool.{true}
 use mathlib.Core.Logic.{_⊎_}
 use mathlib.Core.List.{List, [], _∷_}
 use Prim.Native.Nat.{ℕ, _+_, _-_, _≤_}
 use lib.IntN.{ℤ, pos, _+ℤ_, _-ℤ_, _*ℤ_}
+use lib.Ieee.{Float}
 use lib.ListN.{length}
 use Rattle.integers.specs.Differences.{inFront, byDifferences}
 use Rattle.exact.specs.Numerator.{D}
@@ -15,20 +16,26 @@ use Rattle.ticks.specs.declared.Sample.{Sample}
 use Rattle.ticks.specs.Samples.{wholeOf}
 use Rattle.session.specs.declared.Session.{Session}
 use Rattle.session.specs.declared.State.the-variants.{Settled, Awaiting}
-use Rattle.session.specs.Moves.{presentPoint, predictedPoint, correctedPoint, settledAgain, awaitingAt, acceptedAt, closedSession}
+use Rattle.session.specs.Moves.{presentPoint, predictedPoint, correctedPoint, estimateOf, settledAgain, awaitingAt, acceptedAt, closedSession}
 use Rattle.session.specs.Holding.{holds}
 use Rattle.steps.specs.declared.ReportedPoint.{ReportedPoint}
 use Rattle.steps.specs.declared.Opening.the-variants as O
 use Rattle.steps.specs.declared.Prediction.the-variants as P
 use Rattle.steps.specs.declared.Correction.the-variants as C
 use Rattle.steps.specs.declared.Withdrawal.the-variants as W
-use Rattle.steps.specs.Answers.{reportedPoint, reportedChange, openingAnswer, predictionAnswer, correctionAnswer, withdrawalAnswer, NotZero}
+use Rattle.steps.specs.Answers.{reportedPoint, reportedChange, noChange, openingAnswer, predictionAnswer, correctionAnswer, withdrawalAnswer, NotZero}
 use Rattle.steps.specs.Opening.{wholePoint, openedWith}
 use Rattle.steps.specs.Refusals.{largestChange}
+use Rattle.starting.specs.Rounds.{largestMove}
+use Rattle.starting.specs.Records.{heldRound, starting, openedRound}
+use Rattle.rounds.specs.declared.Outcome.the-variants as R
+use Rattle.rounds.specs.Answers.{noPoints, roundAnswer}
+use Rattle.rounds.specs.Refusals.{givenRound, laterRound}
+use Rattle.rounds.specs.Steps.{told, startingFrom}
 use Rattle.demands.specs.Coordinates.{Coordinate, positionOf, velocityOf, positionIn, velocityIn}
-use Rattle.demands.specs.Histories.{Request, Implementation, Call, after, history, step, Entry, entries, samplesOf, agains}
-use Rattle.demands.specs.Refusals.{Exactly, Unrefused, Within, openTable, predictTable, correctTable, withdrawTable}
-use Rattle.demands.specs.ClosedForm.{Origin, Begins, origin, samples, Stands, Told}
+use Rattle.demands.specs.Histories.{Request, Implementation, Call, after, history, step, Entry, entries, samplesOf, agains, mores}
+use Rattle.demands.specs.Refusals.{Exactly, First, Unrefused, Within, RoundWithin, openTable, predictTable, correctTable, withdrawTable, startTable, refineTable}
+use Rattle.demands.specs.ClosedForm.{Origin, Begins, origin, startOrigin, samples, Stands, Told}
 
 -- ---- demand 1: exactly when each call is refused, and what a refusal leaves
 
@@ -46,6 +53,12 @@ module _ (I : Implementation) where
   abbrev pub withdrawNumber : Session → ℕ
   withdrawNumber s = withdrawalAnswer (I .withdraws s .answer) .number
 
+  abbrev pub startNumber : Request → ℕ
+  startNumber r = roundAnswer (I .starts r .answer) .number
+
+  abbrev pub refineNumber : Session → List Float → ℕ
+  refineNumber s floats = roundAnswer (I .refines s floats .answer) .number
+
 pub record Demand1 (I : Implementation) : Type 0 where
   -- every answer carries the number of the first rule of its table that applies, and 0 where none does
   pub opens : (r : Request) → Exactly (openTable r) (openNumber I r)
@@ -58,6 +71,15 @@ pub record Demand1 (I : Implementation) : Type 0 where
   pub settled : (s : Session) (a : Sample) → correctNumber I s a ≡ 8 → I .corrects s a .session ≡ settledAgain s
   pub uncorrected : (s : Session) (a : Sample) → NotZero (correctNumber I s a) → ¬ (correctNumber I s a ≡ 8) → I .corrects s a .session ≡ s
   pub unwithdrawn : (s : Session) → NotZero (withdrawNumber I s) → I .withdraws s .session ≡ s
+  -- rounds: a refused first one leaves the record closed and zero, and so does 8 of a later one; every other refusal leaves it as it was
+  pub starts : (r : Request) → First (startTable r) (startNumber I r)
+  pub refines : (s : Session) (floats : List Float) → Exactly (refineTable s floats) (refineNumber I s floats)
+  pub unstarted : (r : Request) → NotZero (startNumber I r) → I .starts r .session ≡ closedSession
+  pub ended : (s : Session) (floats : List Float) → refineNumber I s floats ≡ 8 → I .refines s floats .session ≡ closedSession
+  pub unrefined : (s : Session) (floats : List Float) → NotZero (refineNumber I s floats) → ¬ (refineNumber I s floats ≡ 8) → I .refines s floats .session ≡ s
+  -- a refused round has no points
+  pub blankStart : (r : Request) → NotZero (startNumber I r) → I .starts r .answer .points ≡ noPoints
+  pub blankRound : (s : Session) (floats : List Float) → NotZero (refineNumber I s floats) → I .refines s floats .answer .points ≡ noPoints
 
 -- ---- demand 2: a call that no rule refuses gives the formulas' values and takes the formulas' step
 
@@ -77,6 +99,22 @@ pub record Demand2 (I : Implementation) : Type 0 where
       I .corrects s a ≡ record { session = awaitingAt s (s .corrections + 1) q; answer = C.Again (reportedPoint q) (reportedChange (largestChange s q)) }
   -- the record without its estimate
   pub withdraws : (s : Session) → Unrefused (withdrawTable s) → I .withdraws s ≡ record { session = settledAgain s; answer = W.Withdrawn }
+  -- a first round asks for more, with no change: its points, and the record that holds its samples and the epoch
+  pub starts : (r : Request) → Unrefused (startTable r) →
+      let q = wholePoint (r .start) in
+      let round = givenRound (r .points) q (r .floats) in
+      I .starts r ≡ record { session = startingFrom (r .tolerance) (r .limit) 0 q round; answer = told (R.More noChange) round }
+  -- a later round opens the session at its newest point where no position moved by more than the tolerance
+  pub opensRound : (s : Session) (floats : List Float) → Unrefused (refineTable s floats) → RoundWithin s (laterRound s floats) →
+      let round = laterRound s floats in
+      I .refines s floats ≡ record { session = openedRound (s .tolerance) (s .limit) round; answer = told R.Opened round }
+  -- and else asks for more, with the largest change, one round more and this round's samples
+  pub asksMore : (s : Session) (floats : List Float) → Unrefused (refineTable s floats) → ¬ RoundWithin s (laterRound s floats) →
+      let round = laterRound s floats in
+      I .refines s floats ≡ record {
+        session = startingFrom (s .tolerance) (s .limit) (s .corrections + 1) (estimateOf s) round;
+        answer = told (R.More (reportedChange (largestMove round (heldRound s)))) round;
+      }
 
 -- the same over histories: each prediction and correction that was answered is what the formulas give for the samples accepted since the opening
 pub record Formulas (I : Implementation) : Type 0 where
@@ -130,6 +168,8 @@ pub record SamePoint (I : Implementation) (s t : Session) : Type 0 where
 pub record Demand3 (I : Implementation) : Type 0 where
   -- a successful open leaves a record that begins where it was asked to
   pub begins : (r : Request) → I .opens r .answer ≡ O.Opened → Begins (origin r) (I .opens r .session)
+  -- so does a later round that opens: at its newest point, with its samples
+  pub started : (s : Session) (floats : List Float) → I .refines s floats .answer .outcome ≡ R.Opened → Begins (startOrigin s floats) (I .refines s floats .session)
   -- however the record began, and whatever was called since
   pub unsummed : (o : Origin) (s : Session) → Begins o s → (calls : List Call) → Unsummed o (entries (history I s calls))
   -- two records that began alike and accepted the same samples
@@ -141,6 +181,11 @@ pub record Demand3 (I : Implementation) : Type 0 where
 pub record Counts (I : Implementation) : Type 0 where
   -- both begin at 0
   pub opened : (r : Request) → I .opens r .answer ≡ O.Opened → (I .opens r .session .accepted ≡ 0) × (I .opens r .session .corrections ≡ 0)
+  pub openedRound : (s : Session) (floats : List Float) → I .refines s floats .answer .outcome ≡ R.Opened →
+      (I .refines s floats .session .accepted ≡ 0) × (I .refines s floats .session .corrections ≡ 0)
+  -- while a session is starting: the later rounds that asked for more
+  pub rounds : (r : Request) → startNumber I r ≡ 0 → (calls : List Call) → starting (after I (I .starts r .session) calls) ≡ true →
+      after I (I .starts r .session) calls .corrections ≡ mores 0 (history I (I .starts r .session) calls)
   -- one more for each answer *accepted*
   pub accepted : (s : Session) → holds s ≡ true → (calls : List Call) → after I s calls .accepted ≡ s .accepted + length (entries (history I s calls))
   -- while a correction is awaited, the answers *again* since the last prediction; else none
@@ -151,9 +196,12 @@ pub record Counts (I : Implementation) : Type 0 where
 -- ---- what any calls leave
 
 pub record Leaves (I : Implementation) : Type 0 where
-  -- an open leaves a record that is closed and zero, or open; another call leaves it untouched, or open
+  -- an open leaves a record that is closed and zero, or open, a first round one that is closed and zero, or starting; another call leaves it untouched, open,
+  -- starting, or closed and zero
   pub opens : (r : Request) → (I .opens r .session ≡ closedSession) ⊎ (holds (I .opens r .session) ≡ true)
-  pub steps : (s : Session) (call : Call) → (step I s call ≡ s) ⊎ (holds (step I s call) ≡ true)
+  pub starts : (r : Request) → (I .starts r .session ≡ closedSession) ⊎ (starting (I .starts r .session) ≡ true)
+  pub steps : (s : Session) (call : Call) →
+      (step I s call ≡ s) ⊎ ((holds (step I s call) ≡ true) ⊎ ((starting (step I s call) ≡ true) ⊎ (step I s call ≡ closedSession)))
   -- an open record stays open; its sums and samples are those of its beginning and the accepted samples, and it stands at the last accepted point
   pub held : (s : Session) → holds s ≡ true → (calls : List Call) → holds (after I s calls) ≡ true
   pub stands : (o : Origin) (s : Session) → Begins o s → (calls : List Call) → Stands o (samplesOf (entries (history I s calls))) (after I s calls)
@@ -168,3 +216,5 @@ pub record Agree (I J : Implementation) : Type 0 where
   pub predicts : (s : Session) → I .predicts s ≡ J .predicts s
   pub corrects : (s : Session) (a : Sample) → I .corrects s a ≡ J .corrects s a
   pub withdraws : (s : Session) → I .withdraws s ≡ J .withdraws s
+  pub starts : (r : Request) → I .starts r ≡ J .starts r
+  pub refines : (s : Session) (floats : List Float) → I .refines s floats ≡ J .refines s floats

@@ -19,10 +19,15 @@ use Rattle.steps.specs.declared.Withdrawal.{Withdrawal}
 use Rattle.steps.specs.declared.Prediction.the-variants as P
 use Rattle.steps.specs.declared.Correction.the-variants as C
 use Rattle.steps.specs.Steps.{openOf, predictOf, correctOf, withdrawOf}
+use Rattle.rounds.specs.declared.AfterRound.{AfterRound}
+use Rattle.rounds.specs.declared.RoundAnswer.{RoundAnswer}
+use Rattle.rounds.specs.declared.Outcome.{Outcome}
+use Rattle.rounds.specs.declared.Outcome.the-variants as R
+use Rattle.rounds.specs.Steps.{startOf, refineOf}
 
 -- ---- implementations
 
--- what `open` is given
+-- what `open` and a first round are given
 pub record Request : Type 0 where
   pub points : ℕ
   pub tolerance : ℕ
@@ -30,12 +35,14 @@ pub record Request : Type 0 where
   pub start : Start
   pub floats : List Float
 
--- the four calls, as functions of what they are given; an opening does not look at the record that it replaces
+-- the six calls, as functions of what they are given; an opening and a first round do not look at the record that they replace
 pub record Implementation : Type 0 where
   pub opens : Request → AfterOpen
   pub predicts : Session → AfterPredict
   pub corrects : Session → Sample → AfterCorrect
   pub withdraws : Session → AfterWithdraw
+  pub starts : Request → AfterRound
+  pub refines : Session → List Float → AfterRound
 
 -- the definitions that our functions are proved to compute
 abbrev pub ours : Implementation
@@ -45,31 +52,37 @@ ours =
       predicts = predictOf;
       corrects = correctOf;
       withdraws = withdrawOf;
+      starts = λ r. startOf (r .points) (r .tolerance) (r .limit) (r .start) (r .floats);
+      refines = refineOf;
     }
 
--- ---- histories: any calls on a record up to its next opening. A call that is refused is a call.
+-- ---- histories: any calls on a record up to its next opening or first round. A call that is refused is a call.
 
 pub data Call : Type 0 where
   predict : Call
   correct : Sample → Call
   withdraw : Call
+  refine : List Float → Call
 
 -- a call with its answer
 pub data Event : Type 0 where
   predicting : Prediction → Event
   correcting : Sample → Correction → Event
   withdrawing : Withdrawal → Event
+  refining : List Float → RoundAnswer → Event
 
 -- the record that a call leaves, and the event
 abbrev pub step : Implementation → Session → Call → Session
 step I s predict = I .predicts s .session
 step I s (correct a) = I .corrects s a .session
 step I s withdraw = I .withdraws s .session
+step I s (refine floats) = I .refines s floats .session
 
 abbrev pub event : Implementation → Session → Call → Event
 event I s predict = predicting (I .predicts s .answer)
 event I s (correct a) = correcting a (I .corrects s a .answer)
 event I s withdraw = withdrawing (I .withdraws s .answer)
+event I s (refine floats) = refining floats (I .refines s floats .answer)
 
 -- the record after calls, and the history of their answers
 abbrev pub after : Implementation → Session → List Call → Session
@@ -80,14 +93,16 @@ abbrev pub history : Implementation → Session → List Call → List Event
 history I s [] = []
 history I s (call ∷ calls) = event I (after I s calls) call ∷ history I s calls
 
--- openings among the calls
+-- openings and first rounds among the calls
 pub data Act : Type 0 where
   opening : Request → Act
+  firstRound : Request → Act
   calling : Call → Act
 
 abbrev pub lived : Implementation → Session → List Act → Session
 lived I s [] = s
 lived I s (opening r ∷ acts) = I .opens r .session
+lived I s (firstRound r ∷ acts) = I .starts r .session
 lived I s (calling call ∷ acts) = step I (lived I s acts) call
 
 -- ---- what the answers of a history tell
@@ -108,6 +123,7 @@ entries [] = []
 entries (predicting r ∷ es) = entries es
 entries (correcting a r ∷ es) = entered a r (entries es)
 entries (withdrawing r ∷ es) = entries es
+entries (refining floats r ∷ es) = entries es
 
 abbrev pub samplesOf : List Entry → List WholeSample
 samplesOf = map (λ e. e .sample)
@@ -127,3 +143,17 @@ agains n [] = n
 agains n (predicting r ∷ es) = restarted r (agains n es)
 agains n (correcting a r ∷ es) = counted r (agains n es)
 agains n (withdrawing r ∷ es) = agains n es
+agains n (refining floats r ∷ es) = agains n es
+
+-- the later rounds that asked for more; n is what there were before the history
+abbrev pub countedRound : Outcome → ℕ → ℕ
+countedRound (R.More c) n = suc n
+countedRound R.Opened n = n
+countedRound (R.Refused m) n = n
+
+abbrev pub mores : ℕ → List Event → ℕ
+mores n [] = n
+mores n (predicting r ∷ es) = mores n es
+mores n (correcting a r ∷ es) = mores n es
+mores n (withdrawing r ∷ es) = mores n es
+mores n (refining floats r ∷ es) = countedRound (r .outcome) (mores n es)

@@ -18,6 +18,10 @@ use Rattle.session.specs.Moves.{estimateOf, predictedPoint, correctedPoint}
 use Rattle.session.specs.Holding.{settled, awaiting}
 use Rattle.session.specs.Ready.{PlacedPoint}
 use Rattle.steps.specs.Opening.{wholePoint}
+use Rattle.starting.specs.declared.Round.{Round}
+use Rattle.starting.specs.Rounds.{earlierPoint}
+use Rattle.starting.specs.Records.{heldRound, starting}
+use Rattle.rounds.specs.Refusals.{givenRound, laterRound}
 use Rattle.demands.specs.Coordinates.{Coordinate, positionOf}
 use Rattle.demands.specs.Histories.{Request}
 
@@ -48,6 +52,11 @@ Continues before (r ∷ rs) n = ((n ≡ r .number) ↔ NoneAnd before (r .when))
 abbrev pub Exactly : List Rule → ℕ → Type 0
 Exactly rs n = Continues [] rs n
 
+-- n is the number of the first rule that applies, and 0 where none does: for a table in which two rules have one number
+abbrev pub First : List Rule → ℕ → Type 0
+First [] n = n ≡ 0
+First (r ∷ rs) n = (r .when × (n ≡ r .number)) ⊎ ((¬ r .when) × First rs n)
+
 -- ---- the conditions that need a word of their own
 
 abbrev pub Some : (Float → Type 0) → List Float → Type 0
@@ -66,6 +75,13 @@ TooLarge nan = ⊥
 TooLarge (inf s) = ⊥
 TooLarge (fin s m e) = 2 ^ 28 < closest (m * up e) (down e)
 
+-- p is 1 to 9; the tolerance is at most 1,048,576, and the limit 1 to 8
+abbrev pub SomePoints : ℕ → Type 0
+SomePoints p = (1 ≤ p) × (p ≤ 9)
+
+abbrev pub Settings : ℕ → ℕ → Type 0
+Settings tolerance limit = (tolerance ≤ 1048576) × ((1 ≤ limit) × (limit ≤ 8))
+
 -- on each axis the exact position change from the last estimate is at most the tolerance
 abbrev pub Within : Session → Point → Type 0
 Within s q = (k : Coordinate) → natAbs (positionOf k q -ℤ positionOf k (estimateOf s)) ≤ s .tolerance * D
@@ -74,13 +90,26 @@ Within s q = (k : Coordinate) → natAbs (positionOf k q -ℤ positionOf k (esti
 abbrev pub Last : Session → Type 0
 Last s = s .limit ≤ s .corrections + 1
 
+-- every point of a round is in range
+abbrev pub PlacedRound : Round → Type 0
+PlacedRound r = (j : ℕ) → j < r .points → PlacedPoint (earlierPoint r j)
+
+-- at every point of a round, on each axis, the exact position change from the round that the record holds is at most the tolerance
+abbrev pub RoundWithin : Session → Round → Type 0
+RoundWithin s r =
+    (j : ℕ) → j < r .points → (k : Coordinate) → natAbs (positionOf k (earlierPoint r j) -ℤ positionOf k (earlierPoint (heldRound s) j)) ≤ s .tolerance * D
+
+-- p is even
+abbrev pub Even : ℕ → Type 0
+Even p = (m : ℕ) × (p ≡ m + m)
+
 -- ---- the tables. `PlacedPoint`: every position is at least -2^52 and below 2^52, every velocity at least -2^40 and below 2^40
 
 abbrev pub openTable : Request → List Rule
 openTable r =
-    rule 1 (¬ ((1 ≤ r .points) × (r .points ≤ 9)))
+    rule 1 (¬ SomePoints (r .points))
     ∷ rule 2 (¬ (length (r .floats) ≡ 3 * r .points))
-    ∷ rule 3 (¬ ((r .tolerance ≤ 1048576) × ((1 ≤ r .limit) × (r .limit ≤ 8))))
+    ∷ rule 3 (¬ Settings (r .tolerance) (r .limit))
     ∷ rule 6 (¬ PlacedPoint (wholePoint (r .start)))
     ∷ rule 4 (Some NotFinite (r .floats))
     ∷ rule 5 (Some TooLarge (r .floats))
@@ -104,3 +133,27 @@ correctTable s a =
 
 abbrev pub withdrawTable : Session → List Rule
 withdrawTable s = rule 7 (¬ (awaiting s ≡ true)) ∷ []
+
+-- a first round: as an open, with 10 after 1, and 6 for a point that was worked out at the end
+abbrev pub startTable : Request → List Rule
+startTable r =
+    rule 1 (¬ SomePoints (r .points))
+    ∷ rule 10 (Even (r .points) ⊎ (r .points ≡ 1))
+    ∷ rule 2 (¬ (length (r .floats) ≡ 3 * r .points))
+    ∷ rule 3 (¬ Settings (r .tolerance) (r .limit))
+    ∷ rule 6 (¬ PlacedPoint (wholePoint (r .start)))
+    ∷ rule 4 (Some NotFinite (r .floats))
+    ∷ rule 5 (Some TooLarge (r .floats))
+    ∷ rule 6 (¬ PlacedRound (givenRound (r .points) (wholePoint (r .start)) (r .floats)))
+    ∷ []
+
+-- a later round
+abbrev pub refineTable : Session → List Float → List Rule
+refineTable s floats =
+    rule 7 (¬ (starting s ≡ true))
+    ∷ rule 2 (¬ (length floats ≡ 3 * s .points))
+    ∷ rule 4 (Some NotFinite floats)
+    ∷ rule 5 (Some TooLarge floats)
+    ∷ rule 6 (¬ PlacedRound (laterRound s floats))
+    ∷ rule 8 ((¬ RoundWithin s (laterRound s floats)) × Last s)
+    ∷ []

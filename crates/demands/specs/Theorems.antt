@@ -16,11 +16,14 @@ use Rattle.steps.specs.declared.Prediction.the-variants as P
 use Rattle.steps.specs.declared.Correction.the-variants as C
 use Rattle.steps.specs.declared.Withdrawal.the-variants as W
 use Rattle.steps.specs.Answers.{NotZero}
+use Rattle.starting.specs.Records.{starting}
+use Rattle.rounds.specs.declared.Outcome.the-variants as R
+use Rattle.rounds.specs.Steps.{refused}
 use Rattle.demands.specs.Coordinates.{Coordinate}
-use Rattle.demands.specs.Histories.{Request, Implementation, ours, Call, predict, correct, withdraw, Event, predicting, correcting, withdrawing, step, event, after, history, Act, opening, calling, lived, entries, samplesOf, agains}
-use Rattle.demands.specs.ClosedForm.{Origin, Begins, place, openingSamples, origin}
-use Rattle.demands.specs.Demands.{openNumber, Demand1, Demand2, Formulas, Unsummed, UnsummedInTicks, SamePoint, Demand3, Counts, Leaves, Agree}
-use Rattle.demands.specs.BadVersions.{refusing, predictingZero, unmoving, repeating, inventingPoints, inventingCorrections}
+use Rattle.demands.specs.Histories.{Request, Implementation, ours, Call, predict, correct, withdraw, refine, Event, predicting, correcting, withdrawing, refining, step, event, after, history, Act, opening, firstRound, calling, lived, entries, samplesOf, agains}
+use Rattle.demands.specs.ClosedForm.{Origin, Begins, place, openingSamples, origin, startOrigin}
+use Rattle.demands.specs.Demands.{openNumber, startNumber, Demand1, Demand2, Formulas, Unsummed, UnsummedInTicks, SamePoint, Demand3, Counts, Leaves, Agree}
+use Rattle.demands.specs.BadVersions.{refusing, predictingZero, unmoving, repeating, inventingPoints, inventingCorrections, openingAtOnce, openingAnyhow, neverCounting}
 
 -- opened alike: the same p, position, velocity and rounded opening samples; the tolerance and the limit may differ
 pub record Alike (q r : Request) : Type 0 where
@@ -39,11 +42,34 @@ pub record OfOpenings (I : Implementation) : Type 0 where
   pub awaiting : (r : Request) → I .opens r .answer ≡ O.Opened → (calls : List Call) → after I (I .opens r .session) calls .state ≡ Awaiting →
       after I (I .opens r .session) calls .corrections ≡ agains 0 (history I (I .opens r .session) calls)
 
+-- the same of a session that rounds opened
+pub record OfStarts (I : Implementation) : Type 0 where
+  pub unsummed : (s : Session) (floats : List Float) → I .refines s floats .answer .outcome ≡ R.Opened → (calls : List Call) →
+      Unsummed (startOrigin s floats) (entries (history I (I .refines s floats .session) calls))
+  pub accepted : (s : Session) (floats : List Float) → I .refines s floats .answer .outcome ≡ R.Opened → (calls : List Call) →
+      after I (I .refines s floats .session) calls .accepted ≡ length (entries (history I (I .refines s floats .session) calls))
+  pub awaiting : (s : Session) (floats : List Float) → I .refines s floats .answer .outcome ≡ R.Opened → (calls : List Call) →
+      after I (I .refines s floats .session) calls .state ≡ Awaiting →
+      after I (I .refines s floats .session) calls .corrections ≡ agains 0 (history I (I .refines s floats .session) calls)
+  -- alike an opening: the same p, point 0 and samples, whatever way each was made
+  pub same : (s : Session) (floats : List Float) (r : Request) → I .refines s floats .answer .outcome ≡ R.Opened → I .opens r .answer ≡ O.Opened →
+      startOrigin s floats ≡ origin r → (calls others : List Call) →
+      samplesOf (entries (history I (I .refines s floats .session) calls)) ≡ samplesOf (entries (history I (I .opens r .session) others)) →
+      SamePoint I (after I (I .refines s floats .session) calls) (after I (I .opens r .session) others)
+
 -- the answer 7 to a call
 abbrev pub refused7 : Call → Event
 refused7 predict = predicting (P.Refused 7)
 refused7 (correct a) = correcting a (C.Refused 7)
 refused7 withdraw = withdrawing (W.Refused 7)
+refused7 (refine floats) = refining floats (refused 7)
+
+-- a call that is no round
+abbrev pub Plain : Call → Type 0
+Plain predict = Unit {0}
+Plain (correct a) = Unit {0}
+Plain withdraw = Unit {0}
+Plain (refine floats) = ⊥
 
 -- ---- our calls
 
@@ -62,11 +88,17 @@ pub record OurCalls : Type 0 where
       samplesOf (entries (history ours s calls)) ≡ samplesOf (entries (history ours t others)) →
       settled (after ours s calls) ≡ true → settled (after ours t others) ≡ true →
       ours .predicts (after ours s calls) .answer ≡ ours .predicts (after ours t others) .answer
-  -- a record that counts as closed is refused with 7 by every call but `open`, and untouched
-  pub closed : (s : Session) → holds s ≡ false → (call : Call) → (step ours s call ≡ s) × (event ours s call ≡ refused7 call)
+  -- a starting record is refused with 7 by every call but a round, and untouched; an open one by a later round
+  pub waits : (s : Session) → starting s ≡ true → (call : Call) → Plain call → (step ours s call ≡ s) × (event ours s call ≡ refused7 call)
+  pub goesOn : (s : Session) → holds s ≡ true → (floats : List Float) → (step ours s (refine floats) ≡ s) × (event ours s (refine floats) ≡ refused7 (refine floats))
+  -- a record that counts as closed is refused with 7 by every call but `open` and a first round, and untouched
+  pub closed : (s : Session) → holds s ≡ false → starting s ≡ false → (call : Call) → (step ours s call ≡ s) × (event ours s call ≡ refused7 call)
   -- after an `open` that was refused nothing is accepted, and the record stays closed and zero
   pub unopened : (r : Request) → NotZero (openNumber ours r) → (calls : List Call) →
       (after ours (ours .opens r .session) calls ≡ closedSession) × (entries (history ours (ours .opens r .session) calls) ≡ [])
+  -- after a first round that was refused the same
+  pub unstarted : (r : Request) → NotZero (startNumber ours r) → (calls : List Call) →
+      (after ours (ours .starts r .session) calls ≡ closedSession) × (entries (history ours (ours .starts r .session) calls) ≡ [])
 
 -- ---- any implementation
 
@@ -74,8 +106,12 @@ pub record AnyCalls : Type 0 where
   -- an `open` begins a history anew, whatever was done before
   pub anew : (I : Implementation) (s : Session) (r : Request) (calls : List Call) (earlier : List Act) →
       lived I s (map calling calls ++ opening r ∷ earlier) ≡ after I (I .opens r .session) calls
+  -- and so does a first round
+  pub anewStart : (I : Implementation) (s : Session) (r : Request) (calls : List Call) (earlier : List Act) →
+      lived I s (map calling calls ++ firstRound r ∷ earlier) ≡ after I (I .starts r .session) calls
   -- what was opened begins at its origin, so the demands hold of it
   pub openings : (I : Implementation) → Demand3 I → Counts I → OfOpenings I
+  pub starts : (I : Implementation) → Demand3 I → Counts I → OfStarts I
   -- of 3p floats, three for each back point, the oldest point first, the sample of point -i on coordinate k is float 3(p-1-i) + k, rounded (d is never read)
   pub openingSample : (r : Request) (k : Coordinate) (i : ℕ) (d : Float) → i < r .points → length (r .floats) ≡ 3 * r .points →
       at (openingSamples r k) i ≡ ticksIn (roundedOf (getD (r .floats) (3 * (r .points - 1 - i) + place k) d))
@@ -101,6 +137,12 @@ pub record TurnedDown : Type 0 where
   pub inventingPointsCounts : ¬ Counts inventingPoints
   pub inventingPointsLast : ¬ Leaves inventingPoints
   pub inventingCorrectionsCounts : ¬ Counts inventingCorrections
+  -- opens at its first round: demand 2, and that a first round leaves a starting record; opens at any later one: demand 2
+  pub openingAtOnce2 : ¬ Demand2 openingAtOnce
+  pub openingAtOnceLeaves : ¬ Leaves openingAtOnce
+  pub openingAnyhow2 : ¬ Demand2 openingAnyhow
+  -- counts no round: the counts
+  pub neverCountingCounts : ¬ Counts neverCounting
   -- no demand holds for another: what refuses everything meets demand 3, and what predicts zero meets demand 1
   pub refusing3 : Demand3 refusing
   pub predictingZero1 : Demand1 predictingZero

@@ -67,6 +67,9 @@ split-bounded z f = within-bounded (2 ^ 36) z (omega (arith, sfits-within f))
 pub moved-bounded : (h : ℕ) {e : Exact} (z : ℤ) → Bounded h e → SFits w64 z → Bounded (h + 2 ^ 36) (exactOf (numerator e +ℤ z))
 moved-bounded h {e} z b f = within-bounded (h + 2 ^ 36) (numerator e +ℤ z) (omega (arith, numerator-within b, sfits-within f, +-parts (numerator e) z))
 
+pub lowered-bounded : (h : ℕ) {e : Exact} (z : ℤ) → Bounded h e → SFits w64 z → Bounded (h + 2 ^ 36) (exactOf (numerator e -ℤ z))
+lowered-bounded h {e} z b f = within-bounded (h + 2 ^ 36) (numerator e -ℤ z) (omega (arith, numerator-within b, sfits-within f, difference-parts (numerator e) z))
+
 -- and back: the value is known by what it moved to
 pub before-move : (h : ℕ) (e : Exact) (z : ℤ) → e .part < D → SFits w64 z → Bounded h (exactOf (numerator e +ℤ z)) → Bounded (h + 2 ^ 36) e
 before-move h e z p f b =

@@ -75,3 +75,7 @@ larger-exactOf m n = rw (numerator-exactOf (pos m), numerator-exactOf (pos n)) (
     by : (t : Bool) → leb m n ≡ t → cond t (exactOf (pos n)) (exactOf (pos m)) ≡ exactOf (pos (max m n))
     by true e = ap (λ k. exactOf (pos k)) (omega (arith, leb-true m n e))
     by false e = ap (λ k. exactOf (pos k)) (omega (arith, leb-false m n e))
+
+-- as a caller knows it: by a contract
+pub larger-size : (m n : ℕ) {r e f : Exact} → r ≡ largerOf e f → e ≡ exactOf (pos m) → f ≡ exactOf (pos n) → r ≡ exactOf (pos (max m n))
+larger-size m n p e f = p ∙ ap₂ largerOf e f ∙ larger-exactOf m n

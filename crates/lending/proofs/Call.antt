@@ -31,7 +31,7 @@ use denote.Triple.Entry.{onEntry}
 use denote.Triple.Statement.{Contract, Triple}
 use denote.Triple.Spec.{tripleOf}
 use denote.Triple.Walked.{Stays, stay-ref, hasOf, goes-ref, walkOf, ends-at}
-use Rattle.lending.proofs.Data.{Struct, Enum, Outcome, valOf, both}
+use Rattle.lending.proofs.Data.{Struct, Answer, Outcome, valOf, both}
 use Rattle.lending.proofs.Arguments.{Knowns, tys, spells, all-tell, dropped, lasts-of, fits, passed, vals-are, nothing-had, all-go, in-calls, call-knowns, downs, vals-down, flat-down, owns-down}
 use Rattle.lending.proofs.Locals.{Passed, vals}
 use Rattle.lending.proofs.Lent.{locals, body, beside, lent, left}
@@ -41,7 +41,7 @@ module _ (p : Plan) where
   abbrev S : Struct
   S = p .lent
 
-  abbrev K : Enum
+  abbrev K : Answer
   K = p .answer
 
   abbrev G : Outcome S K

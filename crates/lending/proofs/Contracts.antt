@@ -18,7 +18,6 @@ use denote.Laws.{Ises, Are, Spells, valss, Tellss}
 use denote.Signature.{Slot, plain, typesAt, mutRefTo}
 use denote.Exit.{yes}
 use denote.Struct.Declared.{row}
-use denote.Enum.Declared as E
 use denote.Triple.End.{all}
 use denote.Triple.Clauses.{Ended, Clauses, closing}
 use denote.Triple.Entry.{onEntry}
@@ -26,7 +25,7 @@ use denote.Triple.Statement.{Contract, Triple}
 use denote.Triple.Spec.{tripleOf}
 use denote.Triple.Table.{entered, cited}
 use denote.Triple.Walked.{Stays, AllGo, walkOf, walked, walk-meets}
-use Rattle.lending.proofs.Data.{Struct, Enum, Outcome, valOf, both}
+use Rattle.lending.proofs.Data.{Struct, Answer, Outcome, rowOf, valOf, both}
 use Rattle.lending.proofs.Arguments.{Argument, in-calls, in-steps, downs}
 use Rattle.lending.proofs.Lent.{Takes, the-record, no-record, beside}
 
@@ -56,13 +55,13 @@ module _ (S : Struct) {n : ℕ} (args : List (Argument n)) where
 -- ---- what a call is made of: the record, the answer, what the step gives, the other arguments over so many lifetimes, whether the step takes the record, the rule that its result follows, and what the call says of the answer besides
 pub record Plan : Type 2 where
   pub lent : Struct
-  pub answer : Enum
+  pub answer : Answer
   pub outcome : Outcome lent answer
   pub lifetimes : ℕ
   pub args : List (Argument lifetimes)
   pub takes : Takes
   pub rule : (κs : Lfts lifetimes) → Denots (typesAt (taken lent args takes) κs) → outcome .D
-  pub says : (κs : Lfts lifetimes) → Denots (typesAt (taken lent args takes) κs) → answer .type .D → Type 0
+  pub says : (κs : Lfts lifetimes) → Denots (typesAt (taken lent args takes) κs) → answer .part .Value → Type 0
 
 -- ---- the signatures and contracts. Nothing is required in any
 module _ (p : Plan) where
@@ -76,7 +75,7 @@ module _ (p : Plan) where
   -- the call leaves the record of that, and returns its answer, of which more may be said
   abbrev pub Call : Ended
   Call = record {
-    signature = record { lifetimes = suc (p .lifetimes); outlives = []; params = mutRefTo (0 ∷ []) tt (plain (λ _. row (p .lent .type))) ∷ in-calls (p .args); result = plain (λ _. E.row (p .answer .type)) };
+    signature = record { lifetimes = suc (p .lifetimes); outlives = []; params = mutRefTo (0 ∷ []) tt (plain (λ _. row (p .lent .type))) ∷ in-calls (p .args); result = plain (λ _. rowOf (p .answer .part)) };
     kept = (yes, all yes (in-calls (p .args)));
   }
 
@@ -86,7 +85,7 @@ module _ (p : Plan) where
   abbrev pub given : (κs : Lfts (suc (p .lifetimes))) → p .lent .type .D → Denots (typesAt (in-calls (p .args)) κs) → p .outcome .D
   given κs h a = p .rule (κs .1) (passed-on κs h a)
 
-  abbrev pub Promised : (κs : Lfts (suc (p .lifetimes))) → p .lent .type .D → Denots (typesAt (in-calls (p .args)) κs) → p .lent .type .D → p .answer .type .D → Type 0
+  abbrev pub Promised : (κs : Lfts (suc (p .lifetimes))) → p .lent .type .D → Denots (typesAt (in-calls (p .args)) κs) → p .lent .type .D → p .answer .part .Value → Type 0
   Promised κs h a next r = (next ≡ p .outcome .next (given κs h a)) × (r ≡ p .outcome .answer (given κs h a)) × p .says (κs .1) (passed-on κs h a) r
 
   abbrev pub of-call : {M : Type 1} (𝓤 : URA M) → Clauses 𝓤 Call

@@ -23,9 +23,8 @@ use denote.Memory.{mem, cellAt, pointee}
 use denote.Steps.{only, opens, closes, owned, peeks, heard}
 use denote.Struct.Steps.{spelt}
 use denote.Struct.Declared.{row}
-use denote.Enum.Declared as E
 use denote.Triple.Call.{calls-from}
-use Rattle.lending.proofs.Data.{Struct, Enum, Outcome, valOf, made, typed, structTy, enumTy, both, bothTy, both-told, both-typed, next-is, answer-is}
+use Rattle.lending.proofs.Data.{Struct, Answer, Outcome, rowOf, valOf, made, typed, structTy, answer-typed, both, bothTy, both-told, both-typed, next-is, answer-is}
 use Rattle.lending.proofs.Locals.{before, past, copies, Passed, vals, Blocks, rooms, cells, among, past-at, emptied, allocs-all, passes-all, frees-all, at-local, at-field, opds-all}
 
 -- whether the step takes the record, before the arguments
@@ -39,16 +38,16 @@ beside the-record v vs = v ∷ vs
 beside no-record v vs = vs
 
 -- what the call leaves: the borrow of the next record, at (b, o) for the lifetime κ, and the answer
-abbrev pub left : {M : Type 1} {𝓤 : URA M} {S : Struct} {K : Enum} (G : Outcome S K) → Lft → Share → ℕ → ℕ → GName → SProp 𝓤 → G .D → List (Item 𝓤)
+abbrev pub left : {M : Type 1} {𝓤 : URA M} {S : Struct} {K : Answer} (G : Outcome S K) → Lft → Share → ℕ → ℕ → GName → SProp 𝓤 → G .D → List (Item 𝓤)
 left {S = S} {K = K} G κ q b o γ P r =
-    ‵ (fobs γ (row (S .type) .coded .code (G .next r))) ∷ ‵ (fbor κ (Body (mem (row (S .type))) b o γ)) ∷ ‵ (flft κ q) ∷ raw P ∷ ‵ (E.row (K .type) .own (G .answer r) (valOf (K .facts) (G .answer r) ∷ [])) ∷ []
+    ‵ (fobs γ (row (S .type) .coded .code (G .next r))) ∷ ‵ (fbor κ (Body (mem (row (S .type))) b o γ)) ∷ ‵ (flft κ q) ∷ raw P ∷ ‵ (rowOf (K .part) .own (G .answer r) (valOf (K .facts) (G .answer r) ∷ [])) ∷ []
 
-module _ {S : Struct} {K : Enum} (G : Outcome S K) (τs : List Ty) where
+module _ {S : Struct} {K : Answer} (G : Outcome S K) (τs : List Ty) where
   abbrev Record : RattleType
   Record = row (S .type)
 
-  abbrev Answer : RattleType
-  Answer = E.row (K .type)
+  abbrev Answered : RattleType
+  Answered = rowOf (K .part)
 
   abbrev Result : RattleType
   Result = row (both G)
@@ -57,7 +56,7 @@ module _ {S : Struct} {K : Enum} (G : Outcome S K) (τs : List Ty) where
   abbrev value : S .type .D → Val
   value = valOf (S .facts)
 
-  abbrev reply : K .type .D → Val
+  abbrev reply : K .part .Value → Val
   reply = valOf (K .facts)
 
   -- ---- the MIR of the call, over its arguments' types τs
@@ -70,7 +69,7 @@ module _ {S : Struct} {K : Enum} (G : Outcome S K) (τs : List Ty) where
   copied no-record = []
 
   abbrev pub locals : Takes → List Local
-  locals t = local (enumTy K) valueLocal ∷ local refTy valueLocal ∷ before τs (local (bothTy G) valueLocal ∷ before (copied t) [])
+  locals t = local (K .ty) valueLocal ∷ local refTy valueLocal ∷ before τs (local (bothTy G) valueLocal ∷ before (copied t) [])
 
   -- the k-th local after the arguments': the step's result, and the copy
   abbrev nth : ℕ → ℕ
@@ -95,10 +94,10 @@ module _ {S : Struct} {K : Enum} (G : Outcome S K) (τs : List Ty) where
       abbrev opened : (t : Takes) → Blocks (copied t) → List (Item 𝓤)
       opened t cs =
           ‵ (cellAt fullShare (Record .mir) (value h ∷ []) b o) ∷ ‵ (fobor κ q (Body (mem Record) b o γ)) ∷ ‵ (fobs γ (Record .coded .code h)) ∷ ‵ (fauth γ (Record .coded .code h)) ∷
-          ‵ (rooms (copied t) cs) ∷ ‵ (froom (bothTy G) b₂ 0) ∷ ‵ (fdies (bothTy G) b₂) ∷ ‵ (fat fullShare refTy b₁ 0 (vptr b o)) ∷ ‵ (fdies refTy b₁) ∷ ‵ (froom (enumTy K) b₀ 0) ∷ ‵ (fdies (enumTy K) b₀) ∷ []
+          ‵ (rooms (copied t) cs) ∷ ‵ (froom (bothTy G) b₂ 0) ∷ ‵ (fdies (bothTy G) b₂) ∷ ‵ (fat fullShare refTy b₁ 0 (vptr b o)) ∷ ‵ (fdies refTy b₁) ∷ ‵ (froom (K .ty) b₀ 0) ∷ ‵ (fdies (K .ty) b₀) ∷ []
 
       abbrev environment : (t : Takes) → Blocks (copied t) → Env 𝓤 H
-      environment t cs = (enumTy K, b₀) ∷ (refTy, b₁) ∷ among τs bs ((bothTy G, b₂) ∷ among (copied t) cs [])
+      environment t cs = (K .ty, b₀) ∷ (refTy, b₁) ∷ among τs bs ((bothTy G, b₂) ∷ among (copied t) cs [])
 
       -- the step is taken, on a copy of the record where it takes one
       steps : (t : Takes) (cs : Blocks (copied t)) (Pre : SProp 𝓤) (Out : Val → SProp 𝓤) (post : Post 𝓤 H) (rest : Code)
@@ -135,9 +134,9 @@ module _ {S : Struct} {K : Enum} (G : Outcome S K) (τs : List Ty) where
           land ! (at-local ! (past-at τs bs _ 0 _)) (init ! 8 refl (both-typed G 𝓤 H A W r (v ∷ []) is′ .0)) $ rewrite ! 8 (λ (u : Val). ‵ (fat fullShare (bothTy G) b₂ 0 u)) (ap only (both-told G r _ is′)) refl $
           -- the next record is stored, and the answer returned
           assigns ! (of-opd ! (load ! (at-field ! 0 (past-at τs bs _ 0 _) refl) (look-in ! 8 (sub ! 0 refl (whole !))))) (from ! (hop ! (look ! 10 refl) (stop !))) (store-raw ! 3 refl (typed 𝓤 H A W (S .facts) (G .next r) _ (next-is G r _ is′) .0)) $
-          assigns ! (of-opd ! (load ! (at-field ! 1 (past-at τs bs _ 0 _) refl) (look-in ! 8 (sub ! 1 refl (whole !))))) (from ! (stop !)) (init ! 12 refl (typed 𝓤 H A W (K .facts) (G .answer r) _ (answer-is G r _ is′) .0)) $
+          assigns ! (of-opd ! (load ! (at-field ! 1 (past-at τs bs _ 0 _) refl) (look-in ! 8 (sub ! 1 refl (whole !))))) (from ! (stop !)) (init ! 12 refl (answer-typed 𝓤 H A W K (G .answer r) _ (answer-is G r _ is′) .0)) $
           drop ! $ move ! (2 ∷ 3 ∷ 4 ∷ 5 ∷ []) $ owned ! Record (Is Record) (made 𝓤 H A (S .facts)) (G .next r) _ (next-is G r _ is′) $ move ! (1 ∷ 0 ∷ []) $ closes ! tt Record (G .next r) (value (G .next r) ∷ []) b o $
           -- [obs; the borrow; the token; P′; the arguments; the copy; _2; ..; _1; ..; _0; ..]
           returns ! (look ! 10 refl) $ forget ! 6 refl $ forget ! 8 refl $ forget ! 10 refl $ move ! (4 ∷ []) $ use1 W (‵ (rooms τs bs)) (emptied 𝓤 H A W τs ps bs) $
           move ! (10 ∷ 11 ∷ []) $ free1 ! $ move ! (8 ∷ 9 ∷ []) $ free1 ! $ frees-all ! τs bs _ $ move ! (5 ∷ 6 ∷ []) $ free1 ! $ move ! (4 ∷ []) $ frees-all ! (copied t) cs _ $ free0 ! $
-          owned ! Answer (Is Answer) (made 𝓤 H A (K .facts)) (G .answer r) _ (answer-is G r _ is′) $ move ! (1 ∷ 2 ∷ 3 ∷ 4 ∷ 0 ∷ []) $ by ! (exits r e))))))))))))
+          owned ! Answered (Is Answered) (made 𝓤 H A (K .facts)) (G .answer r) _ (answer-is G r _ is′) $ move ! (1 ∷ 2 ∷ 3 ∷ 4 ∷ 0 ∷ []) $ by ! (exits r e))))))))))))

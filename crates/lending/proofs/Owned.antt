@@ -26,9 +26,8 @@ use denote.Lend.{lends-ref, ref-back}
 use denote.Steps.{only, owned, peeks, heard}
 use denote.Struct.Steps.{spelt}
 use denote.Struct.Declared.{row}
-use denote.Enum.Declared as E
 use denote.Triple.Call.{calls-from}
-use Rattle.lending.proofs.Data.{Struct, Enum, Outcome, valOf, made, typed, structTy, enumTy, both, bothTy, bothVal, both-are, both-made, both-typed}
+use Rattle.lending.proofs.Data.{Struct, Answer, Outcome, rowOf, valOf, made, typed, structTy, answer-typed, both, bothTy, bothVal, both-are, both-made, both-typed}
 use Rattle.lending.proofs.Locals.{before, past, copies, Passed, vals, rooms, past-at, emptied, allocs-all, passes-all, frees-all, at-local, opds-all}
 
 -- what lies in memory is a cell and what the type owns
@@ -41,21 +40,21 @@ module _ {M : Type 1} (𝓤 : URA M) (H : Heap 𝓤) (A : Atoms 𝓤) (W : Given
   unfolding partOf
   lies-out = id⊢ 𝓤 _
 
-module _ {M : Type 1} (𝓤 : URA M) (H : Heap 𝓤) (A : Atoms 𝓤) {S : Struct} {K : Enum} (G : Outcome S K) where
+module _ {M : Type 1} (𝓤 : URA M) (H : Heap 𝓤) (A : Atoms 𝓤) {S : Struct} {K : Answer} (G : Outcome S K) where
   -- the reference to the copy h, in the block b under the name γ, for the lifetime ν
   abbrev pub reference : S .type .D → ℕ → GName → ℕ → SProp 𝓤
   reference h ν γ b = sem 𝓤 H A (MutRef (named 0) (ν ∷ []) (row (S .type)) .own (record { ptr = (b, 0); name = γ; now = h }) (vptr b 0 ∷ []))
 
   -- what the call leaves where the step would give r: its answer, and the copy's last value
-  abbrev pub returned : G .D → SProp 𝓤 → ℕ → GName → Val → K .type .D → SProp 𝓤
-  returned r P ν γ v x = sep 𝓤 (sem 𝓤 H A (E.row (K .type) .own x (v ∷ []))) (sep 𝓤 (fact 𝓤 (x ≡ G .answer r)) (sep 𝓤 (A .res γ (row (S .type) .coded .code (G .next r))) (sep 𝓤 (A .lft (ν ∷ []) fullShare) P)))
+  abbrev pub returned : G .D → SProp 𝓤 → ℕ → GName → Val → K .part .Value → SProp 𝓤
+  returned r P ν γ v x = sep 𝓤 (sem 𝓤 H A (rowOf (K .part) .own x (v ∷ []))) (sep 𝓤 (fact 𝓤 (x ≡ G .answer r)) (sep 𝓤 (A .res γ (row (S .type) .coded .code (G .next r))) (sep 𝓤 (A .lft (ν ∷ []) fullShare) P)))
 
-module _ {S : Struct} {K : Enum} (G : Outcome S K) (τs : List Ty) where
+module _ {S : Struct} {K : Answer} (G : Outcome S K) (τs : List Ty) where
   abbrev Record : RattleType
   Record = row (S .type)
 
-  abbrev Answer : RattleType
-  Answer = E.row (K .type)
+  abbrev Answered : RattleType
+  Answered = rowOf (K .part)
 
   abbrev value : S .type .D → Val
   value = valOf (S .facts)
@@ -63,7 +62,7 @@ module _ {S : Struct} {K : Enum} (G : Outcome S K) (τs : List Ty) where
   -- ---- the MIR of the function, over its arguments' types τs
   -- after the arguments': the copy, the answer, the reference, and what the call left
   abbrev pub locals : List Local
-  locals = local (bothTy G) valueLocal ∷ local (structTy S) valueLocal ∷ before τs (local (structTy S) memorySlot ∷ local (enumTy K) valueLocal ∷ local (tyRef erased mut (pointee (Record .written))) valueLocal ∷ local (structTy S) valueLocal ∷ [])
+  locals = local (bothTy G) valueLocal ∷ local (structTy S) valueLocal ∷ before τs (local (structTy S) memorySlot ∷ local (K .ty) valueLocal ∷ local (tyRef erased mut (pointee (Record .written))) valueLocal ∷ local (structTy S) valueLocal ∷ [])
 
   abbrev nth : ℕ → ℕ
   nth k = suc (suc (past τs k))
@@ -98,11 +97,11 @@ module _ {S : Struct} {K : Enum} (G : Outcome S K) (τs : List Ty) where
         -- [the reference; the loan; the token; the arguments; _5; ..; _4; ..; _3; ..; what frees _2; _1; ..; _0; ..; P]
         move ! (2 ∷ 0 ∷ 15 ∷ []) $ use3 W (raw (Pre ν γ b₂)) (asks ν γ b₂) $ move ! (0 ∷ 2 ∷ []) $
         calls-from ! fm (raw (Pre ν γ b₂)) (vptr b₂ 0 ∷ vals τs ps) (Out ν γ b₂) (known ν γ b₂) (and-then ! (load ! (at-local ! (past-at τs bs _ 2 _)) (look ! 5 refl)) (opds-all ! τs ps bs _ _ (λ k. refl))) (λ v.
-        use1 W (later (some (λ (x : K .type .D). ‵ (Answer .own x (v ∷ [])) ⊛ raw (fact 𝓤 (x ≡ G .answer r)) ⊛ ‵ (fres γ (Record .coded .code (G .next r))) ⊛ ‵ (flft (ν ∷ []) fullShare) ⊛ raw P′))) (gives ν γ b₂ v) $ await ! tt $ pick ! (λ x.
-        split ! $ move ! (1 ∷ []) $ split ! $ heard ! (x ≡ G .answer r) (λ e. split ! $ move ! (1 ∷ []) $ split ! $ move ! (3 ∷ []) $ peeks ! Answer (Is Answer) (shows 𝓤 H A Answer) x (v ∷ []) (λ isx.
+        use1 W (later (some (λ (x : K .part .Value). ‵ (Answered .own x (v ∷ [])) ⊛ raw (fact 𝓤 (x ≡ G .answer r)) ⊛ ‵ (fres γ (Record .coded .code (G .next r))) ⊛ ‵ (flft (ν ∷ []) fullShare) ⊛ raw P′))) (gives ν γ b₂ v) $ await ! tt $ pick ! (λ x.
+        split ! $ move ! (1 ∷ []) $ split ! $ heard ! (x ≡ G .answer r) (λ e. split ! $ move ! (1 ∷ []) $ split ! $ move ! (3 ∷ []) $ peeks ! Answered (Is Answered) (shows 𝓤 H A Answered) x (v ∷ []) (λ isx.
         -- [what the answer owns; the token; P′; res; the arguments; the loan; _5; ..; _4; ..; _3; ..; what frees _2; _1; ..; _0; ..]
-        land ! (at-local ! (past-at τs bs _ 1 _)) (init ! 10 refl (typed 𝓤 H A W (K .facts) x (v ∷ []) isx .0)) $ rewrite ! 10 (λ (u : Val). ‵ (fat fullShare (enumTy K) b₃ 0 u)) (ap only (K .facts .laws .tells (K .type .to x) _ isx)) refl $
-        rewrite ! 10 (λ (z : K .type .D). ‵ (fat fullShare (enumTy K) b₃ 0 (valOf (K .facts) z))) e refl $
+        land ! (at-local ! (past-at τs bs _ 1 _)) (init ! 10 refl (answer-typed 𝓤 H A W K x (v ∷ []) isx .0)) $ rewrite ! 10 (λ (u : Val). ‵ (fat fullShare (K .ty) b₃ 0 u)) (ap only (K .facts .laws .tells (K .part .into x) _ isx)) refl $
+        rewrite ! 10 (λ (z : K .part .Value). ‵ (fat fullShare (K .ty) b₃ 0 (valOf (K .facts) z))) e refl $
         -- the lifetime is over, and the copy comes back
         drop ! $ lft-end ! tt $ move ! (0 ∷ 4 ∷ 2 ∷ []) $ use3 W (later (‵ (mem Record .lies (G .next r) b₂ 0))) (ref-back 𝓤 H A W Record (ν ∷ []) γ (G .next r) b₂ 0) $ await ! tt $
         use1 W (some (λ (vs : List Val). ‵ (cellAt fullShare (Record .mir) vs b₂ 0) ⊛ ‵ (Record .own (G .next r) vs))) (lies-out 𝓤 H A W Record (G .next r) b₂ 0) $ pick ! (λ vs. split ! $
@@ -116,5 +115,5 @@ module _ {S : Struct} {K : Enum} (G : Outcome S K) (τs : List Ty) where
         owned ! (row (both G)) (Is (row (both G))) (both-made G 𝓤 H A) r _ (joined x v isx e isn) $ move ! (1 ∷ 0 ∷ []) $ by ! exits)))))))))))))))
       where
         -- the answer and what the call left are the two fields of the result
-        joined : (x : K .type .D) (v : Val) → Is Answer x (v ∷ []) → x ≡ G .answer r → Is Record (G .next r) (value (G .next r) ∷ []) → Is (row (both G)) r (bothVal G r ∷ [])
-        joined x v isx e isn = both-are G r isn (subst (λ (z : K .type .D). Is Answer z (valOf (K .facts) z ∷ [])) e (subst (Is Answer x) (K .facts .laws .tells (K .type .to x) _ isx) isx))
+        joined : (x : K .part .Value) (v : Val) → Is Answered x (v ∷ []) → x ≡ G .answer r → Is Record (G .next r) (value (G .next r) ∷ []) → Is (row (both G)) r (bothVal G r ∷ [])
+        joined x v isx e isn = both-are G r isn (subst (λ (z : K .part .Value). Is Answered z (valOf (K .facts) z ∷ [])) e (subst (Is Answered x) (K .facts .laws .tells (K .part .into x) _ isx) isx))

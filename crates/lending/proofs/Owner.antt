@@ -25,14 +25,13 @@ use denote.Signature.{Slot, typesAt}
 use denote.Exit.{yes}
 use denote.Steps.{heard, nothing}
 use denote.Struct.Declared.{row}
-use denote.Enum.Declared as E
 use denote.Triple.End.{Fins, all, lastsOf}
 use denote.Triple.Clauses.{Clauses, atExit, closing}
 use denote.Triple.Entry.{onEntry}
 use denote.Triple.Statement.{Contract, Triple}
 use denote.Triple.Spec.{tripleOf}
 use denote.Triple.Walked.{hasOf, walkOf, ends-at}
-use Rattle.lending.proofs.Data.{Struct, Enum, Outcome, valOf, both, bothVal}
+use Rattle.lending.proofs.Data.{Struct, Answer, Outcome, rowOf, valOf, both, bothVal}
 use Rattle.lending.proofs.Arguments.{Knowns, struct-known, tys, spells, all-tell, dropped, lasts-of, fits, passed, vals-are, nothing-had, all-go, in-steps, step-knowns, ups, downs-ups, vals-up, flat-up, owns-up}
 use Rattle.lending.proofs.Locals.{Passed, vals}
 use Rattle.lending.proofs.Contracts.{passing, Plan, Call, given, Promised, of-call, Owner, proved}
@@ -42,7 +41,7 @@ module _ (p : Plan) where
   abbrev S : Struct
   S = p .lent
 
-  abbrev K : Enum
+  abbrev K : Answer
   K = p .answer
 
   abbrev G : Outcome S K
@@ -117,7 +116,7 @@ module _ (p : Plan) where
 
       gives : (ν : ℕ) (γ : GName) (b : ℕ) (v : Val) → ent 𝓤 (the-call .post (x ν γ b) v) (H .⇛ (ex 𝓤 (returned 𝓤 H A G r Toks ν γ v)))
       gives ν γ b v =
-          qed W (later (some (λ (z : K .type .D). ((‵ (flft (ν ∷ []) fullShare) ⊛ raw Toks) ⊛ ‵ (E.row (K .type) .own z (v ∷ []))) ⊛ some (λ (ws : Fins (ν ∷ [], κs) (Call p .signature .params) (Call p .kept) (x ν γ b .0 .3)).
+          qed W (later (some (λ (z : K .part .Value). ((‵ (flft (ν ∷ []) fullShare) ⊛ raw Toks) ⊛ ‵ (rowOf (K .part) .own z (v ∷ []))) ⊛ some (λ (ws : Fins (ν ∷ [], κs) (Call p .signature .params) (Call p .kept) (x ν γ b .0 .3)).
           ‵ (lastsOf (ν ∷ [], κs) (Call p .signature .params) (Call p .kept) (x ν γ b .0 .3) ws) ⊛ raw (fact 𝓤 (Promised p (ν ∷ [], κs) (a .0) (ups (p .args) (ν ∷ [], κs) (a .1)) (ws .0) z))))) ∷ []) ∵
           updating ! $ await ! tt $ pick ! (λ z. split ! $ move ! (1 ∷ []) $ pick ! (λ ws. split ! $ move ! (1 ∷ []) $ heard ! _ (λ e. fsplit ! $ rewrite ! 0 (λ (w : S .type .D). ‵ (fres γ (row (S .type) .coded .code w))) (e .0 ∙ ap (G .next) (same ν)) refl $
           move ! (2 ∷ []) $ split ! $ split ! $ use0 W (raw (fact 𝓤 (z ≡ G .answer r))) (factI 𝓤 _ _ (e .1 ∙ ap (G .answer) (same ν))) $ at-once ! $ show ! (returned 𝓤 H A G r Toks ν γ v) z $ keep ! (3 ∷ 0 ∷ 4 ∷ 1 ∷ 2 ∷ []) $ done !)))

@@ -1,10 +1,22 @@
--- What the call that an opening's line holds gives.
+-- What the call of a line with floats gives: an opening, a first round or a later one.
 use lib.ListN.{take}
+use Rattle.script.specs.declared.calls.Floats.{Floats}
 use Rattle.script.specs.declared.calls.OpenCall.{OpenCall}
+use Rattle.session.specs.declared.Session.{Session}
 use Rattle.steps.specs.declared.AfterOpen.{AfterOpen}
 use Rattle.steps.specs.Steps.{openOf}
+use Rattle.rounds.specs.declared.AfterRound.{AfterRound}
+use Rattle.rounds.specs.Steps.{startOf, refineOf}
 
 -- the line's settings, and as many of its floats as it has
 abbrev pub openedBy : OpenCall → AfterOpen
 openedBy call =
     openOf (call .settings .points) (call .settings .tolerance) (call .settings .limit) (call .settings .start) (take (call .floats .count) (call .floats .values))
+
+-- the same of a first round, and of a later one, which has floats alone
+abbrev pub startedBy : OpenCall → AfterRound
+startedBy call =
+    startOf (call .settings .points) (call .settings .tolerance) (call .settings .limit) (call .settings .start) (take (call .floats .count) (call .floats .values))
+
+abbrev pub refinedBy : Session → Floats → AfterRound
+refinedBy s floats = refineOf s (take (floats .count) (floats .values))

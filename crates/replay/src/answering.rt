@@ -1,5 +1,6 @@
 // The answer to one line of a script.
 use crate::calls;
+use rounds::RoundAnswer;
 use script::Answer;
 use script::Name;
 use script::OpenCall;
@@ -15,7 +16,7 @@ pub struct Answered {
 }
 
 fn no_call(s: Session, at: usize) -> Answered
-    ensures { λ r. ⌜ r .end ≤ at + 2048 ⌝ }
+    ensures { λ r. ⌜ r .end ≤ at + 5120 ⌝ }
 {
     Answered {
         session: s,
@@ -27,8 +28,8 @@ fn no_call(s: Session, at: usize) -> Answered
 // An answer, and the record after it.
 fn put_both(out: &mut [u8], at: usize, name: &[u8], answer: Answer, s: Session) -> Answered
     requires { ⌜ length (now name) ≤ 8 ⌝ }
-    requires { ⌜ at + 2048 ≤ length (now out) ⌝ }
-    ensures { λ r. ⌜ r .end ≤ at + 2048 ⌝ }
+    requires { ⌜ at + 5120 ≤ length (now out) ⌝ }
+    ensures { λ r. ⌜ r .end ≤ at + 5120 ⌝ }
 {
     let next = script::put_answer(out, at, name, answer);
     let end = script::put_record(out, next, s);
@@ -41,8 +42,8 @@ fn put_both(out: &mut [u8], at: usize, name: &[u8], answer: Answer, s: Session) 
 
 fn put_open(out: &mut [u8], at: usize, s: Session, call: OpenCall) -> Answered
     requires { ⌜ call .floats .count ≤ 64 ⌝ }
-    requires { ⌜ at + 2048 ≤ length (now out) ⌝ }
-    ensures { λ r. ⌜ r .end ≤ at + 2048 ⌝ }
+    requires { ⌜ at + 5120 ≤ length (now out) ⌝ }
+    ensures { λ r. ⌜ r .end ≤ at + 5120 ⌝ }
 {
     let after = calls::open(s, call);
     let opening = after.answer;
@@ -51,8 +52,8 @@ fn put_open(out: &mut [u8], at: usize, s: Session, call: OpenCall) -> Answered
 }
 
 fn answer_open(out: &mut [u8], at: usize, s: Session, line: &[u8]) -> Answered
-    requires { ⌜ at + 2048 ≤ length (now out) ⌝ }
-    ensures { λ r. ⌜ r .end ≤ at + 2048 ⌝ }
+    requires { ⌜ at + 5120 ≤ length (now out) ⌝ }
+    ensures { λ r. ⌜ r .end ≤ at + 5120 ⌝ }
 {
     let read = script::read_open(line);
     let floats = read.floats;
@@ -65,9 +66,59 @@ fn answer_open(out: &mut [u8], at: usize, s: Session, line: &[u8]) -> Answered
     put_open(out, at, s, read)
 }
 
+// The answer of a round, and the record after it.
+fn put_round(out: &mut [u8], at: usize, name: &[u8], answer: RoundAnswer, s: Session) -> Answered
+    requires { ⌜ length (now name) ≤ 8 ⌝ }
+    requires { ⌜ at + 5120 ≤ length (now out) ⌝ }
+    ensures { λ r. ⌜ r .end ≤ at + 5120 ⌝ }
+{
+    let next = script::put_round(out, at, name, answer);
+    let end = script::put_record(out, next, s);
+    Answered {
+        session: s,
+        end,
+        call: true,
+    }
+}
+
+fn answer_start(out: &mut [u8], at: usize, s: Session, line: &[u8]) -> Answered
+    requires { ⌜ at + 5120 ≤ length (now out) ⌝ }
+    ensures { λ r. ⌜ r .end ≤ at + 5120 ⌝ }
+{
+    let read = script::read_start(line);
+    let floats = read.floats;
+    if floats.end != line.len() {
+        return no_call(s, at);
+    }
+    if 64 < floats.count {
+        return no_call(s, at);
+    }
+    let after = calls::start(s, read);
+    let answer = after.answer;
+    let session = after.session;
+    put_round(out, at, b"start", answer, session)
+}
+
+fn answer_refine(out: &mut [u8], at: usize, s: Session, line: &[u8]) -> Answered
+    requires { ⌜ at + 5120 ≤ length (now out) ⌝ }
+    ensures { λ r. ⌜ r .end ≤ at + 5120 ⌝ }
+{
+    let read = script::read_refine(line);
+    if read.end != line.len() {
+        return no_call(s, at);
+    }
+    if 64 < read.count {
+        return no_call(s, at);
+    }
+    let after = calls::refine(s, read);
+    let answer = after.answer;
+    let session = after.session;
+    put_round(out, at, b"refine", answer, session)
+}
+
 fn answer_predict(out: &mut [u8], at: usize, s: Session) -> Answered
-    requires { ⌜ at + 2048 ≤ length (now out) ⌝ }
-    ensures { λ r. ⌜ r .end ≤ at + 2048 ⌝ }
+    requires { ⌜ at + 5120 ≤ length (now out) ⌝ }
+    ensures { λ r. ⌜ r .end ≤ at + 5120 ⌝ }
 {
     let after = calls::predict(s);
     let prediction = after.answer;
@@ -82,8 +133,8 @@ fn answer_predict(out: &mut [u8], at: usize, s: Session) -> Answered
 }
 
 fn answer_correct(out: &mut [u8], at: usize, s: Session, line: &[u8]) -> Answered
-    requires { ⌜ at + 2048 ≤ length (now out) ⌝ }
-    ensures { λ r. ⌜ r .end ≤ at + 2048 ⌝ }
+    requires { ⌜ at + 5120 ≤ length (now out) ⌝ }
+    ensures { λ r. ⌜ r .end ≤ at + 5120 ⌝ }
 {
     let read = script::read_sample(line);
     if read.end != line.len() {
@@ -103,8 +154,8 @@ fn answer_correct(out: &mut [u8], at: usize, s: Session, line: &[u8]) -> Answere
 }
 
 fn answer_withdraw(out: &mut [u8], at: usize, s: Session) -> Answered
-    requires { ⌜ at + 2048 ≤ length (now out) ⌝ }
-    ensures { λ r. ⌜ r .end ≤ at + 2048 ⌝ }
+    requires { ⌜ at + 5120 ≤ length (now out) ⌝ }
+    ensures { λ r. ⌜ r .end ≤ at + 5120 ⌝ }
 {
     let after = calls::withdraw(s);
     let withdrawal = after.answer;
@@ -119,8 +170,8 @@ fn answer_withdraw(out: &mut [u8], at: usize, s: Session) -> Answered
 }
 
 fn answer_fill(out: &mut [u8], at: usize, s: Session, line: &[u8]) -> Answered
-    requires { ⌜ at + 2048 ≤ length (now out) ⌝ }
-    ensures { λ r. ⌜ r .end ≤ at + 2048 ⌝ }
+    requires { ⌜ at + 5120 ≤ length (now out) ⌝ }
+    ensures { λ r. ⌜ r .end ≤ at + 5120 ⌝ }
 {
     let read = script::read_fill(line);
     if read.end != line.len() {
@@ -136,8 +187,8 @@ fn answer_fill(out: &mut [u8], at: usize, s: Session, line: &[u8]) -> Answered
 }
 
 pub fn answer_line(out: &mut [u8], at: usize, s: Session, line: &[u8]) -> Answered
-    requires { ⌜ at + 2048 ≤ length (now out) ⌝ }
-    ensures { λ r. ⌜ r .end ≤ at + 2048 ⌝ }
+    requires { ⌜ at + 5120 ≤ length (now out) ⌝ }
+    ensures { λ r. ⌜ r .end ≤ at + 5120 ⌝ }
 {
     if 4096 < line.len() {
         return no_call(s, at);
@@ -149,6 +200,8 @@ pub fn answer_line(out: &mut [u8], at: usize, s: Session, line: &[u8]) -> Answer
         Name::Correct => answer_correct(out, at, s, line),
         Name::Withdraw => answer_withdraw(out, at, s),
         Name::Fill => answer_fill(out, at, s, line),
+        Name::Start => answer_start(out, at, s, line),
+        Name::Refine => answer_refine(out, at, s, line),
         Name::Nothing => no_call(s, at),
     }
 }

@@ -1,4 +1,6 @@
-// The four calls, as this program makes them: each lends the record to a call of the library.
+// The calls, as this program makes them: each lends the record to a call of the library.
+use rounds::AfterRound;
+use script::Floats;
 use script::OpenCall;
 use session::Session;
 use steps::AfterCorrect;
@@ -8,7 +10,7 @@ use steps::AfterWithdraw;
 use ticks::Sample;
 ghost use mathlib.Core.Path.{_≡_};
 ghost use Prim.Native.Nat.{_≤_};
-ghost use Rattle.replay.specs.Calls.{openedBy};
+ghost use Rattle.replay.specs.Calls.{openedBy, startedBy, refinedBy};
 ghost use Rattle.steps.specs.Steps.{predictOf, correctOf, withdrawOf};
 
 pub fn open(s: Session, call: OpenCall) -> AfterOpen
@@ -46,4 +48,32 @@ pub fn withdraw(s: Session) -> AfterWithdraw
     ensures { λ r. ⌜ r ≡ withdrawOf s ⌝ }
 {
     stepper::owned::withdraw(s)
+}
+
+pub fn start(s: Session, call: OpenCall) -> AfterRound
+    requires { ⌜ call .floats .count ≤ 64 ⌝ }
+    ensures { λ r. ⌜ r ≡ startedBy call ⌝ }
+{
+    let settings = call.settings;
+    let floats = call.floats;
+    let values = floats.values;
+    let count = floats.count;
+    let epoch = settings.start;
+    stepper::owned::start(
+        s,
+        settings.points,
+        settings.tolerance,
+        settings.limit,
+        epoch,
+        &values[..count],
+    )
+}
+
+pub fn refine(s: Session, floats: Floats) -> AfterRound
+    requires { ⌜ floats .count ≤ 64 ⌝ }
+    ensures { λ r. ⌜ r ≡ refinedBy s floats ⌝ }
+{
+    let values = floats.values;
+    let count = floats.count;
+    stepper::owned::refine(s, &values[..count])
 }

@@ -41,10 +41,10 @@ pub fn write_out(out: &[u8], written: usize) -> bool
 // Output with room for an answer: what it holds is written where it leaves none.
 fn make_room(out: &[u8], written: usize) -> Room
     requires { ⌜ written ≤ length (now out) ⌝ }
-    requires { ⌜ 4096 ≤ length (now out) ⌝ }
-    ensures { λ r. ⌜ r .at + 4096 ≤ length (now (out .entry)) ⌝ }
+    requires { ⌜ 8192 ≤ length (now out) ⌝ }
+    ensures { λ r. ⌜ r .at + 8192 ≤ length (now (out .entry)) ⌝ }
 {
-    if written + 4096 <= out.len() {
+    if written + 8192 <= out.len() {
         return Room {
             at: written,
             taken: true,
@@ -78,7 +78,7 @@ fn stop(out: &mut [u8], at: usize, s: Session, count: u64, used: usize) -> Progr
 // One line, which ends before `next`.
 fn take_line(out: &mut [u8], p: Progress, line: &[u8], next: usize) -> Progress
     requires { ⌜ p .written ≤ length (now out) ⌝ }
-    requires { ⌜ 4096 ≤ length (now out) ⌝ }
+    requires { ⌜ 8192 ≤ length (now out) ⌝ }
     ensures { λ r. ⌜ r .written ≤ length (now (out .entry)) ⌝ }
     ensures { λ r. ⌜ r .used ≡ next ⌝ }
 {
@@ -111,7 +111,7 @@ fn take_line(out: &mut [u8], p: Progress, line: &[u8], next: usize) -> Progress
 // Every whole line of the first `end` bytes.
 fn answer_lines(input: &[u8], end: usize, out: &mut [u8], s: Session, count: u64) -> Progress
     requires { ⌜ end ≤ length (now input) ⌝ }
-    requires { ⌜ 4096 ≤ length (now out) ⌝ }
+    requires { ⌜ 8192 ≤ length (now out) ⌝ }
     ensures { λ r. ⌜ r .written ≤ length (now (out .entry)) ⌝ }
     ensures { λ r. ⌜ r .used ≤ end ⌝ }
 {
@@ -141,7 +141,7 @@ fn answer_lines(input: &[u8], end: usize, out: &mut [u8], s: Session, count: u64
 fn finish(out: &mut [u8], p: Progress, got: usize, end: usize) -> Progress
     requires { ⌜ p .used ≤ end ⌝ }
     requires { ⌜ p .written ≤ length (now out) ⌝ }
-    requires { ⌜ 4096 ≤ length (now out) ⌝ }
+    requires { ⌜ 8192 ≤ length (now out) ⌝ }
     ensures { λ r. ⌜ r .written ≤ length (now (out .entry)) ⌝ }
     ensures { λ r. ⌜ r .used ≤ end ⌝ }
 {
@@ -180,7 +180,7 @@ fn over(p: Progress) -> Progress
 
 fn no_line(out: &mut [u8], p: Progress) -> Progress
     requires { ⌜ p .written ≤ length (now out) ⌝ }
-    requires { ⌜ 4096 ≤ length (now out) ⌝ }
+    requires { ⌜ 8192 ≤ length (now out) ⌝ }
     ensures { λ r. ⌜ r .written ≤ length (now (out .entry)) ⌝ }
     ensures { λ r. ⌜ r .used ≡ p .used ⌝ }
 {
@@ -205,7 +205,7 @@ pub fn answer_piece(
     count: u64,
 ) -> Progress
     requires { ⌜ end ≤ length (now input) ⌝ }
-    requires { ⌜ 4096 ≤ length (now out) ⌝ }
+    requires { ⌜ 8192 ≤ length (now out) ⌝ }
     ensures { λ r. ⌜ r .written ≤ length (now (out .entry)) ⌝ }
     ensures { λ r. ⌜ r .used ≤ end ⌝ }
 {

@@ -44,7 +44,7 @@ struct Place {
 // Reads a piece, answers its lines, and writes the answers.
 fn turn(input: &mut [u8], out: &mut [u8], place: Place) -> Place
     requires { ⌜ place .held ≤ length (now input) ⌝ }
-    requires { ⌜ 4096 ≤ length (now out) ⌝ }
+    requires { ⌜ 8192 ≤ length (now out) ⌝ }
     ensures { λ r. ⌜ r .held ≤ length (now (input .entry)) ⌝ }
 {
     let s = place.session;
@@ -63,7 +63,7 @@ fn turn(input: &mut [u8], out: &mut [u8], place: Place) -> Place
 }
 
 fn run(input: &mut [u8], out: &mut [u8])
-    requires { ⌜ 4096 ≤ length (now out) ⌝ }
+    requires { ⌜ 8192 ≤ length (now out) ⌝ }
 {
     let session = session::closed();
     let mut place = Place {

@@ -1,4 +1,4 @@
-// The answers of the four calls in one shape: a number, a kind, a point and a change, zeros where an answer carries nothing.
+// The answers of the calls other than rounds in one shape: a number, a kind, a point and a change, zeros where an answer carries nothing.
 use exact::Exact;
 use exact::Reported;
 use steps::Correction;
@@ -15,7 +15,8 @@ pub struct Answer {
     pub change: Reported,
 }
 
-fn no_change() -> Reported {
+// The change of an answer that carries none.
+pub fn no_change() -> Reported {
     Exact::ZERO.reported()
 }
 

@@ -14,6 +14,8 @@ pub enum Name {
     Correct,
     Withdraw,
     Fill,
+    Start,
+    Refine,
     Nothing,
 }
 
@@ -66,6 +68,12 @@ pub fn name_of(line: &[u8]) -> Name {
     }
     if begins(line, b"fill") {
         return Name::Fill;
+    }
+    if begins(line, b"start") {
+        return Name::Start;
+    }
+    if begins(line, b"refine") {
+        return Name::Refine;
     }
     if begins(line, b"predict") {
         if line.len() == 7 {
@@ -124,6 +132,17 @@ pub fn read_open(line: &[u8]) -> OpenCall {
     let settings = read_settings(line, 4);
     let floats = read_floats(line, settings.end);
     OpenCall { settings, floats }
+}
+
+// A first round has what an opening has.
+pub fn read_start(line: &[u8]) -> OpenCall {
+    let settings = read_settings(line, 5);
+    let floats = read_floats(line, settings.end);
+    OpenCall { settings, floats }
+}
+
+pub fn read_refine(line: &[u8]) -> Floats {
+    read_floats(line, 6)
 }
 
 pub fn read_sample(line: &[u8]) -> ReadSample {

@@ -21,7 +21,7 @@ ghost use Rattle.script.specs.Rooms.{Within};
 
 // ---- words
 
-fn put_natural(out: &mut [u8], at: usize, n: u64) -> usize
+pub fn put_natural(out: &mut [u8], at: usize, n: u64) -> usize
     requires { ⌜ at + 21 ≤ length (now out) ⌝ }
     ensures { λ r. ⌜ Within (now (out .entry)) at 21 (now (out .exit)) r ⌝ }
 {
@@ -38,7 +38,7 @@ fn put_exact(out: &mut [u8], at: usize, e: Exact) -> usize
     put_natural(out, b, e.part as u64)
 }
 
-fn put_reported(out: &mut [u8], at: usize, r: Reported) -> usize
+pub fn put_reported(out: &mut [u8], at: usize, r: Reported) -> usize
     requires { ⌜ at + 59 ≤ length (now out) ⌝ }
     ensures { λ end. ⌜ Within (now (out .entry)) at 59 (now (out .exit)) end ⌝ }
 {
@@ -60,7 +60,7 @@ fn put_motion_reported(out: &mut [u8], at: usize, m: ReportedMotion) -> usize
     put_reported(out, a, velocity)
 }
 
-fn put_point(out: &mut [u8], at: usize, q: ReportedPoint) -> usize
+pub fn put_point(out: &mut [u8], at: usize, q: ReportedPoint) -> usize
     requires { ⌜ at + 354 ≤ length (now out) ⌝ }
     ensures { λ r. ⌜ Within (now (out .entry)) at 354 (now (out .exit)) r ⌝ }
 {
@@ -133,6 +133,7 @@ fn number_of(s: State) -> u64 {
         State::Closed => 0,
         State::Settled => 1,
         State::Awaiting => 2,
+        State::Starting => 3,
     }
 }
 

@@ -126,11 +126,14 @@ fn state_of(n: u64) -> State {
     if n == 1 {
         return State::Settled;
     }
-    State::Awaiting
+    if n == 2 {
+        return State::Awaiting;
+    }
+    State::Starting
 }
 
 fn read_head(line: &[u8], at: usize) -> Head {
-    let state = small_word(line, at, 3);
+    let state = small_word(line, at, 4);
     let points = natural_word(line, state.end);
     let tolerance = natural_word(line, points.end);
     let limit = natural_word(line, tolerance.end);

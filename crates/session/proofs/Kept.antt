@@ -20,7 +20,7 @@ use Rattle.session.specs.declared.State.the-variants.{Closed}
 use Rattle.session.specs.Numbers.{pointsHold, settingsHold, mostPoints}
 use Rattle.session.specs.Moves.{nowhere, estimateOf, predictedPoint, correctedPoint, pointInRange, settledAgain, awaitingAt, acceptedAt, openedSession, closedSession}
 use Rattle.session.specs.Holding.{countsHold, holds, settled, awaiting}
-use Rattle.session.specs.Ready.{PlacedPoint}
+use Rattle.session.specs.Ready.{Waiting, PlacedPoint}
 use Rattle.axis.proofs.Places.{places-hold}
 use Rattle.axis.proofs.Sound.{predicted-placed, corrected-placed}
 use Rattle.axis.proofs.Kept.{still-placed, estimating-holds, advanced-holds, opened-holds}
@@ -42,6 +42,10 @@ pub corrected-point-placed : (s : Session) (w : WholeSample) → pointInRange (c
 unfolding correctedPoint
 corrected-point-placed s w =
     point-placed (correctedPoint s w) (corrected-placed (s .points) (s .x) (w .x)) (corrected-placed (s .points) (s .y) (w .y)) (corrected-placed (s .points) (s .z) (w .z))
+
+pub estimate-point-placed : (s : Session) → Waiting s → PlacedPoint (estimateOf s)
+unfolding estimateOf
+estimate-point-placed s w = record { on-x = w .on-x; on-y = w .on-y; on-z = w .on-z }
 
 -- ---- settled again: withdrawn, or refused by 8
 

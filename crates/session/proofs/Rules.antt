@@ -12,7 +12,7 @@ use Rattle.axis.specs.Holding.{axisHolds}
 use Rattle.session.specs.declared.Point.{Point}
 use Rattle.session.specs.declared.Session.{Session}
 use Rattle.session.specs.declared.State.{State}
-use Rattle.session.specs.declared.State.the-variants.{Closed, Settled, Awaiting}
+use Rattle.session.specs.declared.State.the-variants.{Closed, Settled, Awaiting, Starting}
 use Rattle.session.specs.Numbers.{pointsHold, settingsHold, mostPoints}
 use Rattle.session.specs.Moves.{nowhere, presentPoint, estimateOf, predictedPoint, pointInRange}
 use Rattle.session.specs.Holding.{countsHold, samePoint, settledHolds, estimateBegins, awaitingHolds, stateHolds, holds, isSettled, isAwaiting, settled, awaiting}
@@ -139,6 +139,7 @@ settled-state : (k : State) → isSettled k ≡ true → k ≡ Settled
 settled-state Closed e = absurd (false≢true e)
 settled-state Settled e = refl
 settled-state Awaiting e = absurd (false≢true e)
+settled-state Starting e = absurd (false≢true e)
 
 pub settled-holds : (s : Session) → settled s ≡ true → holds s ≡ true
 unfolding settled
@@ -173,6 +174,7 @@ awaiting-state : (k : State) → isAwaiting k ≡ true → k ≡ Awaiting
 awaiting-state Closed e = absurd (false≢true e)
 awaiting-state Settled e = absurd (false≢true e)
 awaiting-state Awaiting e = refl
+awaiting-state Starting e = absurd (false≢true e)
 
 pub awaiting-holds : (s : Session) → awaiting s ≡ true → holds s ≡ true
 unfolding awaiting

@@ -8,7 +8,7 @@ use Rattle.axis.specs.Holding.{remaindersHold, samplesSmall, emptyZero}
 use Rattle.session.specs.declared.Point.{Point}
 use Rattle.session.specs.declared.Session.{Session}
 use Rattle.session.specs.declared.State.{State}
-use Rattle.session.specs.declared.State.the-variants.{Closed, Settled, Awaiting}
+use Rattle.session.specs.declared.State.the-variants.{Closed, Settled, Awaiting, Starting}
 use Rattle.session.specs.Numbers.{pointsHold, settingsHold, mostPoints}
 use Rattle.session.specs.Moves.{nowhere, presentPoint, estimateOf, predictedPoint, pointInRange}
 
@@ -39,6 +39,7 @@ abbrev pub stateHolds : State → Session → Bool
 stateHolds Closed s = false
 stateHolds Settled s = settledHolds s
 stateHolds Awaiting s = awaitingHolds s
+stateHolds Starting s = false
 
 -- the record is open: no field breaks the numbers, every remainder is from 0 to D - 1, the sums give a present point in range,
 -- the estimate is in range, every empty sample place is zero, and the state's own rules are kept
@@ -56,11 +57,13 @@ abbrev pub isSettled : State → Bool
 isSettled Closed = false
 isSettled Settled = true
 isSettled Awaiting = false
+isSettled Starting = false
 
 abbrev pub isAwaiting : State → Bool
 isAwaiting Closed = false
 isAwaiting Settled = false
 isAwaiting Awaiting = true
+isAwaiting Starting = false
 
 -- the record is open, and in the state that a call wants
 unfoldable pub settled : Session → Bool

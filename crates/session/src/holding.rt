@@ -78,6 +78,7 @@ fn state_holds(s: Session) -> bool
         State::Closed => false,
         State::Settled => settled_holds(s),
         State::Awaiting => awaiting_holds(s),
+        State::Starting => false,
     }
 }
 
@@ -107,6 +108,7 @@ pub fn is_settled(s: Session) -> bool
         State::Closed => false,
         State::Settled => is_open(s),
         State::Awaiting => false,
+        State::Starting => false,
     }
 }
 
@@ -118,5 +120,6 @@ pub fn is_awaiting(s: Session) -> bool
         State::Closed => false,
         State::Settled => false,
         State::Awaiting => is_open(s),
+        State::Starting => false,
     }
 }

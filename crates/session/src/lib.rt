@@ -5,6 +5,7 @@ use axis::Motion;
 mod holding;
 mod moves;
 mod numbers;
+mod points;
 
 pub use holding::is_awaiting;
 pub use holding::is_settled;
@@ -12,16 +13,22 @@ pub use moves::accept;
 pub use moves::await_at;
 pub use moves::closed;
 pub use moves::corrected_point;
+pub use moves::estimate_of;
+pub use moves::no_point;
 pub use moves::open_at;
 pub use moves::predicted_point;
 pub use moves::settle;
 pub use numbers::points_hold;
 pub use numbers::settings_hold;
+pub use points::point_change;
+pub use points::point_in_range;
+pub use points::points_agree;
 
 pub enum State {
     Closed,
     Settled,
     Awaiting,
+    Starting,
 }
 
 pub struct Session {

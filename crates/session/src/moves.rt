@@ -13,7 +13,7 @@ use ticks::WholeSample;
 ghost use mathlib.Core.Path.{_≡_};
 ghost use Prim.Native.Nat.{_≤_};
 ghost use Rattle.coefficients.specs.Formulas.{Small};
-ghost use Rattle.session.specs.Moves.{nowhere, predictedPoint, correctedPoint, settledAgain, awaitingAt, acceptedAt, openedSession, closedSession};
+ghost use Rattle.session.specs.Moves.{nowhere, estimateOf, predictedPoint, correctedPoint, settledAgain, awaitingAt, acceptedAt, openedSession, closedSession};
 ghost use Rattle.session.specs.Ready.{ReadySession, Waiting, PlacedPoint};
 ghost use Rattle.ticks.specs.Samples.{WithinLimit};
 
@@ -26,6 +26,16 @@ pub fn no_point() -> Point
         y: none,
         z: none,
     }
+}
+
+// The last estimate.
+pub fn estimate_of(s: Session) -> Point
+    ensures { λ r. ⌜ r ≡ estimateOf s ⌝ }
+{
+    let x = s.x.estimate;
+    let y = s.y.estimate;
+    let z = s.z.estimate;
+    Point { x, y, z }
 }
 
 pub fn predicted_point(s: Session) -> Point

@@ -6,7 +6,7 @@ use mir.Syntax.{w64, tyInt}
 use denote.Builtin.{f64}
 use denote.Struct.Field.{u64-field}
 use denote.Struct.Laws as LL
-use Rattle.lending.proofs.Data.{Struct, Enum, Outcome}
+use Rattle.lending.proofs.Data.{Struct, Answer, of-enum, of-struct, Outcome}
 use Rattle.lending.proofs.Arguments.{Argument, number, struct, slice}
 use Rattle.lending.proofs.Lent.{the-record, no-record}
 use Rattle.lending.proofs.Contracts.{Plan}
@@ -30,6 +30,11 @@ use Rattle.steps.proofs.AfterCorrect
 use Rattle.steps.proofs.Withdrawal
 use Rattle.steps.proofs.Withdrawal.Laws as WithdrawalLaws
 use Rattle.steps.proofs.AfterWithdraw
+use Rattle.rounds.specs.Answers.{roundAnswer}
+use Rattle.rounds.specs.Steps.{startOf, startAnswer, refineOf, refineAnswer}
+use Rattle.rounds.proofs.RoundAnswer
+use Rattle.rounds.proofs.RoundAnswer.Laws as RoundAnswerLaws
+use Rattle.rounds.proofs.AfterRound
 
 -- ---- the record, and the arguments
 abbrev session : Struct
@@ -45,17 +50,20 @@ abbrev count : {n : ℕ} → Argument n
 count = number u64-field (record { laws = LL.u64-laws; plain = LL.u64-plain; copy = LL.u64-copy }) (tyInt w64) refl
 
 -- ---- the answers
-abbrev opening : Enum
-opening = record { type = Opening.the-type; facts = record { laws = OpeningLaws.the-field-laws; plain = OpeningLaws.the-field-plain; copy = OpeningLaws.the-field-copy } }
+abbrev opening : Answer
+opening = of-enum (record { type = Opening.the-type; facts = record { laws = OpeningLaws.the-field-laws; plain = OpeningLaws.the-field-plain; copy = OpeningLaws.the-field-copy } })
 
-abbrev prediction : Enum
-prediction = record { type = Prediction.the-type; facts = record { laws = PredictionLaws.the-field-laws; plain = PredictionLaws.the-field-plain; copy = PredictionLaws.the-field-copy } }
+abbrev prediction : Answer
+prediction = of-enum (record { type = Prediction.the-type; facts = record { laws = PredictionLaws.the-field-laws; plain = PredictionLaws.the-field-plain; copy = PredictionLaws.the-field-copy } })
 
-abbrev correction : Enum
-correction = record { type = Correction.the-type; facts = record { laws = CorrectionLaws.the-field-laws; plain = CorrectionLaws.the-field-plain; copy = CorrectionLaws.the-field-copy } }
+abbrev correction : Answer
+correction = of-enum (record { type = Correction.the-type; facts = record { laws = CorrectionLaws.the-field-laws; plain = CorrectionLaws.the-field-plain; copy = CorrectionLaws.the-field-copy } })
 
-abbrev withdrawal : Enum
-withdrawal = record { type = Withdrawal.the-type; facts = record { laws = WithdrawalLaws.the-field-laws; plain = WithdrawalLaws.the-field-plain; copy = WithdrawalLaws.the-field-copy } }
+abbrev withdrawal : Answer
+withdrawal = of-enum (record { type = Withdrawal.the-type; facts = record { laws = WithdrawalLaws.the-field-laws; plain = WithdrawalLaws.the-field-plain; copy = WithdrawalLaws.the-field-copy } })
+
+abbrev round : Answer
+round = of-struct (record { type = RoundAnswer.the-type; facts = record { laws = RoundAnswerLaws.the-field-laws; plain = RoundAnswerLaws.the-field-plain; copy = RoundAnswerLaws.the-field-copy } })
 
 -- ---- what the steps give
 abbrev opened : Outcome session opening
@@ -69,6 +77,9 @@ corrected = record { name = AfterCorrect.the-type .name; D = AfterCorrect.the-ty
 
 abbrev withdrawn : Outcome session withdrawal
 withdrawn = record { name = AfterWithdraw.the-type .name; D = AfterWithdraw.the-type .D; next = λ r. r .session; answer = λ r. r .answer; to-one = AfterWithdraw.the-type .to-one }
+
+abbrev rounded : Outcome session round
+rounded = record { name = AfterRound.the-type .name; D = AfterRound.the-type .D; next = λ r. r .session; answer = λ r. r .answer; to-one = AfterRound.the-type .to-one }
 
 -- ---- the calls
 abbrev pub opens : Plan
@@ -117,4 +128,28 @@ withdraws = record {
   takes = the-record;
   rule = λ κs a. withdrawOf (a .0);
   says = λ κs a r. withdrawalAnswer r ≡ withdrawAnswer (a .0);
+}
+
+abbrev pub starts : Plan
+starts = record {
+  lent = session;
+  answer = round;
+  outcome = rounded;
+  lifetimes = 1;
+  args = count ∷ count ∷ count ∷ struct start ∷ slice 0 tt f64 ∷ [];
+  takes = no-record;
+  rule = λ κs a. startOf (a .0) (a .1 .0) (a .1 .1 .0) (a .1 .1 .1 .0) (a .1 .1 .1 .1 .0 .now);
+  says = λ κs a r. roundAnswer r ≡ startAnswer (a .0) (a .1 .0) (a .1 .1 .0) (a .1 .1 .1 .0) (a .1 .1 .1 .1 .0 .now);
+}
+
+abbrev pub refines : Plan
+refines = record {
+  lent = session;
+  answer = round;
+  outcome = rounded;
+  lifetimes = 1;
+  args = slice 0 tt f64 ∷ [];
+  takes = the-record;
+  rule = λ κs a. refineOf (a .0) (a .1 .0 .now);
+  says = λ κs a r. roundAnswer r ≡ refineAnswer (a .0) (a .1 .0 .now);
 }

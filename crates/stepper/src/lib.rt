@@ -1,4 +1,5 @@
 // The calls of the library: each is lent the session's record, takes the step by value, and leaves the record that the step gives.
+use rounds::RoundAnswer;
 use session::Session;
 use steps::Correction;
 use steps::Opening;
@@ -7,6 +8,8 @@ use steps::Start;
 use steps::Withdrawal;
 use ticks::Sample;
 ghost use mathlib.Core.Path.{_≡_};
+ghost use Rattle.rounds.specs.Answers.{roundAnswer};
+ghost use Rattle.rounds.specs.Steps.{startOf, startAnswer, refineOf, refineAnswer};
 ghost use Rattle.steps.specs.Answers.{openingAnswer, predictionAnswer, correctionAnswer, withdrawalAnswer};
 ghost use Rattle.steps.specs.Steps.{openOf, openAnswer, predictOf, predictAnswer, correctOf, correctAnswer, withdrawOf, withdrawAnswer};
 
@@ -55,6 +58,35 @@ pub fn withdraw(s: &mut Session) -> Withdrawal
         × (withdrawalAnswer r ≡ withdrawAnswer (now (s .entry))) ⌝ }
 {
     let r = steps::withdraw_step(*s);
+    *s = r.session;
+    r.answer
+}
+
+// A first round of a start from an epoch.
+pub fn start(
+    s: &mut Session,
+    points: usize,
+    tolerance: u64,
+    limit: u64,
+    epoch: Start,
+    samples: &[f64],
+) -> RoundAnswer
+    ensures { λ r. ⌜ (now (s .exit) ≡ startOf points tolerance limit epoch (now (samples .entry)) .session)
+        × (r ≡ startOf points tolerance limit epoch (now (samples .entry)) .answer)
+        × (roundAnswer r ≡ startAnswer points tolerance limit epoch (now (samples .entry))) ⌝ }
+{
+    let r = rounds::start_step(points, tolerance, limit, epoch, samples);
+    *s = r.session;
+    r.answer
+}
+
+// A later round.
+pub fn refine(s: &mut Session, samples: &[f64]) -> RoundAnswer
+    ensures { λ r. ⌜ (now (s .exit) ≡ refineOf (now (s .entry)) (now (samples .entry)) .session)
+        × (r ≡ refineOf (now (s .entry)) (now (samples .entry)) .answer)
+        × (roundAnswer r ≡ refineAnswer (now (s .entry)) (now (samples .entry))) ⌝ }
+{
+    let r = rounds::refine_step(*s, samples);
     *s = r.session;
     r.answer
 }

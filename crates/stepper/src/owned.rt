@@ -1,4 +1,5 @@
 // The same calls for whoever owns the record: each lends its own copy to a call, and returns what the call leaves beside its answer.
+use rounds::AfterRound;
 use session::Session;
 use steps::AfterCorrect;
 use steps::AfterOpen;
@@ -7,6 +8,7 @@ use steps::AfterWithdraw;
 use steps::Start;
 use ticks::Sample;
 ghost use mathlib.Core.Path.{_≡_};
+ghost use Rattle.rounds.specs.Steps.{startOf, refineOf};
 ghost use Rattle.steps.specs.Steps.{openOf, predictOf, correctOf, withdrawOf};
 
 pub fn open(
@@ -46,4 +48,27 @@ pub fn withdraw(s: Session) -> AfterWithdraw
     let mut session = s;
     let answer = crate::withdraw(&mut session);
     AfterWithdraw { session, answer }
+}
+
+pub fn start(
+    s: Session,
+    points: usize,
+    tolerance: u64,
+    limit: u64,
+    epoch: Start,
+    samples: &[f64],
+) -> AfterRound
+    ensures { λ r. ⌜ r ≡ startOf points tolerance limit epoch (now (samples .entry)) ⌝ }
+{
+    let mut session = s;
+    let answer = crate::start(&mut session, points, tolerance, limit, epoch, samples);
+    AfterRound { session, answer }
+}
+
+pub fn refine(s: Session, samples: &[f64]) -> AfterRound
+    ensures { λ r. ⌜ r ≡ refineOf s (now (samples .entry)) ⌝ }
+{
+    let mut session = s;
+    let answer = crate::refine(&mut session, samples);
+    AfterRound { session, answer }
 }

@@ -3,21 +3,19 @@ use mathlib.Core.Path.{_≡_, refl, sym, ap, _∙_}
 use mathlib.Core.Bool.{Bool, true, false}
 use Prim.Native.Nat.{ℕ, zero, suc, _*_, _^_, _≤_, _<_}
 use native.Mathlib.Omega.{arith}
-use borrow.Author.Tests.{leb-true, leb-false}
-use lib.Dec.{leb}
 use lib.IntN.{pos}
-use Rattle.integers.specs.Tests.{joined, clash}
 use Rattle.integers.specs.Parts.{integers}
 use Rattle.exact.specs.declared.Reported.{Reported}
 use Rattle.exact.specs.Numerator.{D, exactOf, numerator}
 use Rattle.exact.specs.Laws.{numerator-exactOf}
 use Rattle.ticks.specs.declared.Sample.{Sample}
 use Rattle.ticks.specs.Samples.{wholeOf}
-use Rattle.axis.proofs.Agreement.{change-within, agrees-iff}
 use Rattle.session.specs.declared.Point.{Point}
 use Rattle.session.specs.declared.Session.{Session}
-use Rattle.session.specs.Moves.{correctedPoint}
+use Rattle.session.specs.Moves.{estimateOf, correctedPoint}
 use Rattle.session.specs.Ready.{Waiting, PlacedPoint}
+use Rattle.session.proofs.Kept.{estimate-point-placed}
+use Rattle.session.proofs.Apart.{apart-over, apart-within}
 use Rattle.steps.specs.declared.ReportedPoint.{ReportedPoint}
 use Rattle.steps.specs.declared.Correction.the-variants as C
 use Rattle.steps.specs.Answers.{reportedChange}
@@ -26,26 +24,13 @@ use Rattle.steps.specs.Steps.{judged, correctBy, correctOf}
 
 -- ---- a point that does not agree
 
-module _ (s : Session) (q : Point) where
-  agrees-within : largestChange s q ≤ s .tolerance * D → agrees s q ≡ true
-  unfolding agrees largestChange
-  agrees-within h =
-      let t = s .tolerance in
-      simp joined (
-        agrees-iff t (q .x) (s .x .estimate) .1 (omega arith),
-        (agrees-iff t (q .y) (s .y .estimate) .1 (omega arith), agrees-iff t (q .z) (s .z .estimate) .1 (omega arith)),
-      )
-
-  pub over-tolerance : agrees s q ≡ false → s .tolerance * D < largestChange s q
-  over-tolerance f = by (leb (largestChange s q) (s .tolerance * D)) refl
-    where
-      by : (t : Bool) → leb (largestChange s q) (s .tolerance * D) ≡ t → s .tolerance * D < largestChange s q
-      by true e = clash (agrees-within (leb-true _ _ e)) f
-      by false e = leb-false _ _ e
+pub over-tolerance : (s : Session) (q : Point) → agrees s q ≡ false → s .tolerance * D < largestChange s q
+unfolding agrees largestChange
+over-tolerance s q = apart-over (s .tolerance) q (estimateOf s)
 
 -- ---- what *again* carries
 
-clash-of : _≡_ {A = ℕ} 0 1 → ⊥
+pub clash-of : _≡_ {A = ℕ} 0 1 → ⊥
 clash-of h = omega arith
 
 module _ (s : Session) (a : Sample) (q : ReportedPoint) (c : Reported) where
@@ -68,9 +53,8 @@ module _ (s : Session) (a : Sample) (q : ReportedPoint) (c : Reported) where
       let g = sym (numerator-exactOf (pos n)) ∙ ap (λ r. numerator (r .exact)) (sym f) ∙ ap numerator z ∙ numerator-exactOf (pos 0) in
       omega integers
 
--- ---- its size: two positions in range are at most 2^53 ticks apart
+-- ---- its size
 
 pub largest-within : (s : Session) (q : Point) → Waiting s → PlacedPoint q → largestChange s q ≤ 2 ^ 53 * D
 unfolding largestChange
-largest-within s q w p =
-    omega (arith, change-within (q .x) (s .x .estimate) (p .on-x) (w .on-x), change-within (q .y) (s .y .estimate) (p .on-y) (w .on-y), change-within (q .z) (s .z .estimate) (p .on-z) (w .on-z))
+largest-within s q w p = apart-within q (estimateOf s) p (estimate-point-placed s w)

@@ -51,19 +51,19 @@ motion : (m : Motion) → Placed m → FaithfulMotion (reportedMotion m)
 unfolding reportedMotion
 motion m p = record { position = bounded (p .position); velocity = bounded (widen (2 ^ 52) (p .velocity) tt) }
 
-point : (q : Point) → PlacedPoint q → FaithfulPoint (reportedPoint q)
+pub point : (q : Point) → PlacedPoint q → FaithfulPoint (reportedPoint q)
 unfolding reportedPoint
 point q p = record { on-x = motion (q .x) (p .on-x); on-y = motion (q .y) (p .on-y); on-z = motion (q .z) (p .on-z) }
 
-no-point : FaithfulPoint noPoint
+pub no-point : FaithfulPoint noPoint
 unfolding noPoint nowhere
 no-point = point nowhere (record { on-x = still-placed; on-y = still-placed; on-z = still-placed })
 
-change : (n : ℕ) → n ≤ 2 ^ 53 * D → Faithful (reportedChange n)
+pub change : (n : ℕ) → n ≤ 2 ^ 53 * D → Faithful (reportedChange n)
 unfolding reportedChange
 change n h = faithful (exactOf (pos n)) (part-below (pos n)) (size-reports n h)
 
-no-change : Faithful noChange
+pub no-change : Faithful noChange
 unfolding noChange
 no-change = change 0 zero-le
 

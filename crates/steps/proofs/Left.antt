@@ -106,7 +106,7 @@ module _ (s : Session) (a : Sample) where
 
 -- ---- whatever the number
 
-zero-or-not : (n : ℕ) → (n ≡ 0) ⊎ NotZero n
+pub zero-or-not : (n : ℕ) → (n ≡ 0) ⊎ NotZero n
 zero-or-not zero = inl refl
 zero-or-not (suc n) = inr (suc-ne-zero n)
 

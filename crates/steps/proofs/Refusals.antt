@@ -25,11 +25,11 @@ use Rattle.steps.specs.Unrefused.{Openable, Predictable, Correctable}
 use Rattle.steps.proofs.Rules.{Among, among, rules-on, faultless}
 
 -- some float is a NaN or an infinity
-abbrev unfit : List Float → Bool
+abbrev pub unfit : List Float → Bool
 unfit xs = any isNotANumber xs || any isInfinite xs
 
 -- some float rounds to too many ticks
-abbrev large : List Float → Bool
+abbrev pub large : List Float → Bool
 large xs = any isTooLarge xs
 
 -- ---- open

@@ -1,5 +1,5 @@
 -- Which number refuses a call: each call has its rules in the paper's order, and the first that applies gives its number, 0 if none does. Definitions only.
-use Prim.Native.Nat.{ℕ, max, _+_, _*_}
+use Prim.Native.Nat.{ℕ, _+_, _*_}
 use mathlib.Core.Bool.{Bool, not, _||_}
 use mathlib.Core.List.{List, [], _∷_, _++_}
 use lib.Dec.{eqb, leb}
@@ -11,11 +11,11 @@ use Rattle.ticks.specs.declared.Fault.the-variants.{Nothing, NotANumber, Infini
 use Rattle.ticks.specs.declared.Sample.{Sample}
 use Rattle.ticks.specs.Round.{isNotANumber, isInfinite, isTooLarge}
 use Rattle.ticks.specs.Samples.{any, axesOf, wholeOf}
-use Rattle.axis.specs.Estimates.{changeOf, agreesOn}
 use Rattle.session.specs.declared.Point.{Point}
 use Rattle.session.specs.declared.Session.{Session}
 use Rattle.session.specs.Numbers.{pointsHold, settingsHold, mostPoints}
-use Rattle.session.specs.Moves.{predictedPoint, correctedPoint, pointInRange}
+use Rattle.session.specs.Moves.{estimateOf, predictedPoint, correctedPoint, pointInRange}
+use Rattle.session.specs.Apart.{pointsAgree, pointChange}
 use Rattle.session.specs.Holding.{settled, awaiting}
 use Rattle.steps.specs.declared.Start.{Start}
 use Rattle.steps.specs.Opening.{wholePoint}
@@ -68,14 +68,11 @@ predictRefusal s = firstOf (predictRules s)
 
 -- on each axis the change from the last estimate is at most the tolerance
 unfoldable pub agrees : Session → Point → Bool
-agrees s q =
-    agreesOn (s .tolerance) (q .x) (s .x .estimate)
-    and agreesOn (s .tolerance) (q .y) (s .y .estimate)
-    and agreesOn (s .tolerance) (q .z) (s .z .estimate)
+agrees s q = pointsAgree (s .tolerance) q (estimateOf s)
 
 -- the largest change of an axis
 unfoldable pub largestChange : Session → Point → ℕ
-largestChange s q = max (changeOf (q .x) (s .x .estimate)) (max (changeOf (q .y) (s .y .estimate)) (changeOf (q .z) (s .z .estimate)))
+largestChange s q = pointChange q (estimateOf s)
 
 -- this correction is the last that the limit allows
 unfoldable pub isLast : Session → Bool

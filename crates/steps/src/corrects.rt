@@ -2,17 +2,18 @@
 use crate::AfterCorrect;
 use crate::Correction;
 use crate::checks::fault_number;
-use crate::checks::point_in_range;
 use crate::reports::report_point;
-use axis::agrees_on;
-use axis::change;
 use exact::Exact;
 use session::Point;
 use session::Session;
 use session::accept;
 use session::await_at;
 use session::corrected_point;
+use session::estimate_of;
 use session::is_awaiting;
+use session::point_change;
+use session::point_in_range;
+use session::points_agree;
 use session::settle;
 use ticks::Sample;
 use ticks::WholeSample;
@@ -33,13 +34,7 @@ fn is_agreed(s: Session, q: Point) -> bool
     requires { ⌜ PlacedPoint q ⌝ }
     ensures { λ r. ⌜ r ≡ agrees s q ⌝ }
 {
-    if !agrees_on(s.tolerance, q.x, s.x.estimate) {
-        return false;
-    }
-    if !agrees_on(s.tolerance, q.y, s.y.estimate) {
-        return false;
-    }
-    agrees_on(s.tolerance, q.z, s.z.estimate)
+    points_agree(s.tolerance, q, estimate_of(s))
 }
 
 fn largest_change(s: Session, q: Point) -> Exact
@@ -47,10 +42,7 @@ fn largest_change(s: Session, q: Point) -> Exact
     requires { ⌜ PlacedPoint q ⌝ }
     ensures { λ r. ⌜ r ≡ exactOf (pos (largestChange s q)) ⌝ }
 {
-    let x = change(q.x, s.x.estimate);
-    let y = change(q.y, s.y.estimate);
-    let z = change(q.z, s.z.estimate);
-    x.larger(y.larger(z))
+    point_change(q, estimate_of(s))
 }
 
 fn refuse_correct(s: Session, number: u8) -> AfterCorrect

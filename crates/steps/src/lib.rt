@@ -9,9 +9,13 @@ mod predicts;
 mod reports;
 mod withdraws;
 
+pub use checks::fault_number;
 pub use corrects::correct_step;
+pub use opens::axis_samples;
 pub use opens::open_step;
+pub use opens::start_point;
 pub use predicts::predict_step;
+pub use reports::report_point;
 pub use withdraws::withdraw_step;
 
 // A position and a velocity, each beside its report.

@@ -3,13 +3,13 @@ use crate::AfterOpen;
 use crate::Opening;
 use crate::Start;
 use crate::checks::fault_number;
-use crate::checks::point_in_range;
 use axis::Motion;
 use exact::Exact;
 use session::Point;
 use session::Session;
 use session::closed;
 use session::open_at;
+use session::point_in_range;
 use session::points_hold;
 use session::settings_hold;
 ghost use mathlib.Core.Path.{_≡_};
@@ -30,7 +30,7 @@ fn at_whole(position: i64, velocity: i64) -> Motion
     }
 }
 
-fn start_point(start: Start) -> Point
+pub fn start_point(start: Start) -> Point
     ensures { λ r. ⌜ r ≡ wholePoint start ⌝ }
 {
     let x = at_whole(start.x, start.vx);
@@ -40,7 +40,7 @@ fn start_point(start: Start) -> Point
 }
 
 // The samples of axis k, newest first, out of x, y, z, x, y, z, .. that begin with the oldest point.
-fn axis_samples(p: usize, k: usize, floats: &[f64]) -> [i64; 9]
+pub fn axis_samples(p: usize, k: usize, floats: &[f64]) -> [i64; 9]
     requires { ⌜ (1 ≤ p) × (p ≤ 9) ⌝ }
     requires { ⌜ k < 3 ⌝ }
     requires { ⌜ length (now floats) ≡ 3 * p ⌝ }

@@ -1,11 +1,11 @@
 // Predict: the predicted point, which the session then awaits a correction of.
 use crate::AfterPredict;
 use crate::Prediction;
-use crate::checks::point_in_range;
 use crate::reports::report_point;
 use session::Session;
 use session::await_at;
 use session::is_settled;
+use session::point_in_range;
 use session::predicted_point;
 ghost use mathlib.Core.Path.{_≡_};
 ghost use Rattle.steps.specs.Steps.{predictOf};

@@ -1,26 +1,17 @@
--- `steps::corrects::is_agreed` meets its contract: the three tests.
-use borrow.Author.Needs.{needs}
-use Rattle.integers.specs.Tests.{stop, go-on}
+-- `steps::corrects::is_agreed` meets its contract: the point is compared with the last estimate.
+use mathlib.Core.Path.{_∙_, ap}
+use Rattle.session.specs.Apart.{pointsAgree}
+use Rattle.session.proofs.Kept.{estimate-point-placed}
 use Rattle.steps.specs.Refusals.{agrees}
 use Rattle.steps.proofs.corrects.is_agreed.Statement.{statement}
 use Rattle.steps.proofs.corrects.is_agreed.Tie as tie
 
+points-agree-requires : tie.Need-points-agree-requires
+points-agree-requires c κs = let b = c .before in (b .pre .0 .tolerance, (b .pre .1, rw (c .estimate-of .ensures) (estimate-point-placed (b .args .s) (b .pre .0))))
+
 returns : tie.Need-returns
 unfolding agrees
-returns c = stop _ (c .before .agrees-on .ensures) (c .if1 .taken)
-
-returns-2 : tie.Need-returns-2
-unfolding agrees
-returns-2 c =
-    let d = c .before .before in
-    go-on (d .before .agrees-on .ensures) (d .if1 .left) (stop _ (c .before .agrees-on2 .ensures) (c .if2 .taken))
-
-returns-3 : tie.Need-returns-3
-unfolding agrees
-returns-3 c =
-    let e = c .before in
-    let d = e .before .before in
-    go-on (d .before .agrees-on .ensures) (d .if1 .left) (go-on (e .before .agrees-on2 .ensures) (e .if2 .left) (c .agrees-on3 .ensures))
+returns c = let a = c .before .before .args in c .points-agree .ensures ∙ ap (pointsAgree (a .s .tolerance) (a .q)) (c .before .estimate-of .ensures)
 
 pub is-agreed-spec : {M : Type 1} → statement M
-is-agreed-spec = tie.close (tie.spec (λ c κs. search needs) returns (λ c κs. search needs) returns-2 (λ c κs. search needs) returns-3)
+is-agreed-spec = tie.close (tie.spec (λ c κs. tt) points-agree-requires returns)

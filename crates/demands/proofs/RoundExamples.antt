@@ -1,0 +1,149 @@
+-- A start with p 3: epoch 1000 with velocity 10, samples of 12, and then samples of 12 or of 24; and what the definitions compute there.
+use mathlib.Core.Path.{_≡_, refl}
+use mathlib.Core.Bool.{true}
+use mathlib.Core.List.{List, [], _∷_}
+use Prim.Native.Nat.{ℕ, _*_}
+use lib.IntN.{ℤ, pos, natAbs, _-ℤ_}
+use lib.Ieee.{Float, binary64, add, div, ofInt}
+use Rattle.integers.specs.Tests.{firstOf}
+use Rattle.integers.specs.Differences.{byDifferences}
+use Rattle.exact.specs.Numerator.{D, exactOf, numerator, sameExact}
+use Rattle.coefficients.specs.Fraction.{times}
+use Rattle.coefficients.specs.Rules.{c, g, l, s, total, terms, next, divided}
+use Rattle.coefficients.specs.Scaled.{run}
+use Rattle.coefficients.specs.Formulas.{positionCorrector, velocityCorrector, positionPredictor, velocityPredictor}
+use Rattle.ticks.specs.Round.{roundedOf}
+use Rattle.ticks.specs.Samples.{any}
+use Rattle.earlier.specs.Formulas.{lessBefore, cut, earlierPosition, earlierVelocity, hasCentre}
+use Rattle.axis.specs.Formulas.{motionOf, still, presentMotion, predictedMotion}
+use Rattle.axis.specs.Estimates.{sameMotion, inRange, changeOf, agreesOn}
+use Rattle.axis.specs.Holding.{remaindersHold, samplesSmall, emptyZero, placesHold}
+use Rattle.epochs.specs.Formulas.{nextSums, backSums, runOn, runBack, newestSums, earlierMotion, centreSums, startedAxis}
+use Rattle.session.specs.declared.Session.{Session}
+use Rattle.session.specs.declared.State.the-variants.{Awaiting}
+use Rattle.session.specs.Numbers.{pointsHold, settingsHold}
+use Rattle.session.specs.Moves.{nowhere, presentPoint, estimateOf, predictedPoint, pointInRange, awaitingAt, closedSession}
+use Rattle.session.specs.Apart.{pointsAgree, pointChange}
+use Rattle.session.specs.Holding.{countsHold, samePoint, settledHolds, holds, settled}
+use Rattle.steps.specs.declared.Opening.the-variants as O
+use Rattle.steps.specs.Answers.{reportedMotion, reportedPoint, reportedChange, noPoint, noChange}
+use Rattle.steps.specs.Opening.{wholePoint, axisSamples}
+use Rattle.steps.specs.Refusals.{openRefusal, full, predictRefusal, isLast}
+use Rattle.steps.specs.Steps.{openOf, predictOf}
+use Rattle.starting.specs.Rounds.{roundOf, earlierPoint, everyBelow, largestBelow, roundInRange, roundsAgree, largestMove}
+use Rattle.starting.specs.Records.{heldRound, sumsZero, epochHolds, axisStarts, axesStart, startHolds, starting, startingAxis, startingSession, openedRound}
+use Rattle.rounds.specs.declared.Outcome.{Outcome}
+use Rattle.rounds.specs.declared.Outcome.the-variants as R
+use Rattle.rounds.specs.Answers.{pointsFrom, roundPoints, noPoints}
+use Rattle.rounds.specs.Refusals.{givenRound, startRefusal, laterRound, refineRefusal}
+use Rattle.rounds.specs.Steps.{startOf, refineOf}
+use Rattle.demands.specs.Coordinates.{onX, positionOf}
+use Rattle.demands.specs.Histories.{Request, ours, Call, predict, refine, after, history, agains, mores}
+use Rattle.demands.specs.BadVersions.{openingAtOnce, openingAnyhow, neverCounting}
+use Rattle.demands.proofs.Examples.{stateNumber}
+use Rattle.demands.proofs.TablesOfRounds.{start-refusal}
+
+-- ---- the session
+
+abbrev float : ℤ → Float
+float n = ofInt binary64 n
+
+-- three samples of n on x
+abbrev pub force : ℤ → List Float
+force n = float n ∷ float (pos 0) ∷ float (pos 0) ∷ float n ∷ float (pos 0) ∷ float (pos 0) ∷ float n ∷ float (pos 0) ∷ float (pos 0) ∷ []
+
+-- a request with p, from a position and a velocity on x
+abbrev request : ℕ → ℤ → ℤ → Request
+request p x v =
+    record { points = p; tolerance = 0; limit = 2; start = record { x = x; y = pos 0; z = pos 0; vx = v; vy = pos 0; vz = pos 0 }; floats = force (pos 12) }
+
+abbrev pub first : Request
+first = request 3 (pos 1000) (pos 10)
+
+-- an even p
+abbrev pub even : Request
+even = request 2 (pos 1000) (pos 10)
+
+-- what `open` is given at the point one step after the epoch, 1000 + 10 + 6 with velocity 10 + 12
+abbrev pub newest : Request
+newest = request 3 (pos 1016) (pos 22)
+
+-- after the first round, and after a later one that moved
+abbrev pub begun : Session
+begun = ours .starts first .session
+
+abbrev pub moved : List Call
+moved = refine (force (pos 24)) ∷ []
+
+abbrev pub again : Session
+again = after ours begun moved
+
+-- ---- what the definitions compute there
+
+abbrev pub kind : Outcome → ℕ
+kind (R.More c) = 2
+kind R.Opened = 3
+kind (R.Refused n) = 0
+
+pub record Computed : Type 0 where
+  pub unrefused : start-refusal first ≡ 0
+  pub tenth : start-refusal even ≡ 10
+  -- the same samples open it, others ask for more, and then for the last time
+  pub opens : refineOf begun (force (pos 12)) .answer .outcome ≡ R.Opened
+  pub unrefusedSame : refineRefusal begun (force (pos 12)) ≡ 0
+  pub unrefusedOther : refineRefusal begun (force (pos 24)) ≡ 0
+  pub asksMore : kind (refineOf begun (force (pos 24)) .answer .outcome) ≡ 2
+  pub once : mores 0 (history ours begun moved) ≡ 1
+  pub againStarting : starting again ≡ true
+  pub eighth : refineRefusal again (force (pos 12)) ≡ 8
+  pub second : refineRefusal begun [] ≡ 2
+  -- the point where it opens is whole
+  pub sameRound : laterRound begun (force (pos 12)) ≡ heldRound begun
+  pub opened : ours .opens newest .answer ≡ O.Opened
+  pub point0 : earlierPoint (laterRound begun (force (pos 12))) 0 ≡ wholePoint (newest .start)
+  pub points : begun .points ≡ 3
+  pub tolerance : begun .tolerance ≡ 0
+  -- and predicts there
+  pub awaits : after ours (refineOf begun (force (pos 12)) .session) (predict ∷ []) .state ≡ Awaiting
+  pub noAgains : agains 0 (history ours (refineOf begun (force (pos 12)) .session) (predict ∷ [])) ≡ 0
+  -- a later round of 24 moves the newest point by 6 ticks
+  pub far : natAbs (positionOf onX (earlierPoint (laterRound begun (force (pos 24))) 0) -ℤ positionOf onX (earlierPoint (heldRound begun) 0)) ≡ 6 * D
+  -- the bad versions there
+  pub atOnce : openingAtOnce .starts first .answer .outcome ≡ R.Opened
+  pub atOnceState : stateNumber (openingAtOnce .starts first .session .state) ≡ 1
+  pub anyhow : openingAnyhow .refines begun (force (pos 24)) .answer .outcome ≡ R.Opened
+  pub closedState : stateNumber (closedSession .state) ≡ 0
+  pub stillStarting : starting (after neverCounting begun moved) ≡ true
+  pub notCounted : after neverCounting begun moved .corrections ≡ 0
+  pub countedOnce : mores 0 (history neverCounting begun moved) ≡ 1
+
+pub computed : Computed
+unfolding add div ofInt firstOf byDifferences exactOf numerator sameExact times c g l s total terms next divided run positionCorrector velocityCorrector roundedOf any motionOf still inRange changeOf agreesOn samplesSmall emptyZero placesHold pointsHold settingsHold nowhere estimateOf pointInRange pointsAgree pointChange closedSession reportedMotion reportedPoint reportedChange noPoint noChange wholePoint axisSamples openRefusal openOf isLast full predictRefusal predictOf predictedPoint presentPoint predictedMotion presentMotion positionPredictor velocityPredictor awaitingAt sameMotion samePoint remaindersHold countsHold settledHolds holds settled lessBefore cut earlierPosition earlierVelocity hasCentre nextSums backSums runOn runBack newestSums earlierMotion centreSums startedAxis heldRound sumsZero epochHolds axisStarts axesStart startHolds starting startingAxis startingSession openedRound roundOf earlierPoint everyBelow largestBelow roundInRange roundsAgree largestMove pointsFrom roundPoints noPoints givenRound startRefusal laterRound refineRefusal startOf refineOf
+computed =
+    record {
+      unrefused = refl;
+      tenth = refl;
+      opens = refl;
+      unrefusedSame = refl;
+      unrefusedOther = refl;
+      asksMore = refl;
+      once = refl;
+      againStarting = refl;
+      eighth = refl;
+      second = refl;
+      sameRound = refl;
+      opened = refl;
+      point0 = refl;
+      points = refl;
+      tolerance = refl;
+      awaits = refl;
+      noAgains = refl;
+      far = refl;
+      atOnce = refl;
+      atOnceState = refl;
+      anyhow = refl;
+      closedState = refl;
+      stillStarting = refl;
+      notCounted = refl;
+      countedOnce = refl;
+    }

@@ -1,0 +1,63 @@
+-- Each bad version of rounds fails the demand that is named for it, in a start with p 3.
+use mathlib.Core.Path.{sym, ap, _∙_, subst}
+use mathlib.Core.Logic.{⊎-elim}
+use Prim.Native.Nat.{_*_, _≤_, _<_}
+use native.Mathlib.Omega.{arith}
+use lib.IntN.{pos}
+use Rattle.exact.specs.Numerator.{D}
+use Rattle.starting.proofs.Rules.{keeps-rules}
+use Rattle.rounds.specs.Refusals.{laterRound}
+use Rattle.rounds.proofs.Opened.{later-points}
+use Rattle.demands.specs.Coordinates.{onX}
+use Rattle.demands.specs.Refusals.{Unrefused, RoundWithin, startTable, refineTable}
+use Rattle.demands.specs.Demands.{Demand2, Counts, Leaves}
+use Rattle.demands.specs.BadVersions.{openingAtOnce, openingAnyhow, neverCounting}
+use Rattle.demands.proofs.TablesOfRounds.{start-none}
+use Rattle.demands.proofs.Rounds.{start-number, refine-number}
+use Rattle.demands.proofs.Ours.{demand1}
+use Rattle.demands.proofs.Examples.{stateNumber}
+use Rattle.demands.proofs.RoundExamples.{force, first, begun, moved, kind, computed}
+
+-- ---- no rule refuses the first round, nor a later one
+
+pub unrefused-first : Unrefused (startTable first)
+unrefused-first = start-none first .0 (computed .unrefused)
+
+pub unrefused-same : Unrefused (refineTable begun (force (pos 12)))
+unrefused-same =
+    let (_, (_, (_, (_, (_, (_, none)))))) = demand1 .refines begun (force (pos 12)) in
+    none .0 (refine-number begun (force (pos 12)) ∙ computed .unrefusedSame)
+
+pub unrefused-other : Unrefused (refineTable begun (force (pos 24)))
+unrefused-other =
+    let (_, (_, (_, (_, (_, (_, none)))))) = demand1 .refines begun (force (pos 24)) in
+    none .0 (refine-number begun (force (pos 24)) ∙ computed .unrefusedOther)
+
+-- the newest point moved by 6 ticks, and the tolerance is 0
+pub not-within : ¬ RoundWithin begun (laterRound begun (force (pos 24)))
+not-within w =
+    let n : 0 < laterRound begun (force (pos 24)) .points = subst (λ n. 0 < n) (sym (later-points begun (force (pos 24)) ∙ computed .points)) (omega arith) in
+    let h : 6 * D ≤ 0 * D = subst (λ t. 6 * D ≤ t * D) (computed .tolerance) (subst (λ n. n ≤ begun .tolerance * D) (computed .far) (w 0 n onX)) in
+    absurd (omega (arith, h))
+
+-- ---- opens at its first round, which must ask for more and leave a starting record
+
+pub openingAtOnce2 : ¬ Demand2 openingAtOnce
+openingAtOnce2 d = omega (arith, sym (ap kind (computed .atOnce)) ∙ ap (λ a. kind (a .answer .outcome)) (d .starts first unrefused-first))
+
+pub openingAtOnceLeaves : ¬ Leaves openingAtOnce
+openingAtOnceLeaves d =
+    ⊎-elim (λ e. omega (arith, sym (computed .atOnceState) ∙ ap (λ s. stateNumber (s .state)) e ∙ computed .closedState))
+    (λ t. omega (arith, sym (computed .atOnceState) ∙ ap stateNumber (keeps-rules (openingAtOnce .starts first .session) t .state)))
+    (d .starts first)
+
+-- ---- opens at any later round, also where a point moved
+
+pub openingAnyhow2 : ¬ Demand2 openingAnyhow
+openingAnyhow2 d = omega (arith, sym (ap kind (computed .anyhow)) ∙ ap (λ a. kind (a .answer .outcome)) (d .asksMore begun (force (pos 24)) unrefused-other not-within))
+
+-- ---- counts no round: one asked for more, and the record counts none
+
+pub neverCountingCounts : ¬ Counts neverCounting
+neverCountingCounts d =
+    omega (arith, sym (computed .notCounted) ∙ d .rounds first (start-number first ∙ computed .unrefused) moved (computed .stillStarting) ∙ computed .countedOnce)

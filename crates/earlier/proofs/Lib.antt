@@ -1,0 +1,6 @@
+pub mod Centre
+pub mod Rows
+pub mod Tied
+pub mod Times
+pub mod Cut
+pub mod Printed

@@ -1,0 +1,4 @@
+-- What the contracts of `earlier` cite, and the series that they are.
+pub mod Series
+pub mod Formulas
+pub mod Printed

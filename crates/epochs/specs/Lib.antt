@@ -1,0 +1,2 @@
+-- What the contracts of `epochs` cite.
+pub mod Formulas

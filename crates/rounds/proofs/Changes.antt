@@ -1,0 +1,49 @@
+-- The change that a later round carries where it asks for more: it is over the tolerance, so it is never zero, and it has a report.
+use mathlib.Core.Path.{_≡_, refl, sym, ap, _∙_}
+use mathlib.Core.List.{List}
+use Prim.Native.Nat.{ℕ, _*_, _^_, _≤_, _<_}
+use lib.IntN.{pos}
+use lib.Ieee.{Float}
+use Rattle.integers.specs.Parts.{integers}
+use Rattle.exact.specs.declared.Reported.{Reported}
+use Rattle.exact.specs.Numerator.{D, exactOf, numerator}
+use Rattle.exact.specs.Laws.{numerator-exactOf}
+use Rattle.session.specs.declared.Session.{Session}
+use Rattle.starting.specs.Rounds.{roundOf, largestMove}
+use Rattle.starting.specs.Records.{heldRound}
+use Rattle.starting.proofs.Points.{move-over, move-within}
+use Rattle.starting.proofs.Rules.{keeps-rules}
+use Rattle.steps.specs.Answers.{reportedChange}
+use Rattle.rounds.specs.declared.Outcome.the-variants.{More}
+use Rattle.rounds.specs.Refusals.{laterRound}
+use Rattle.rounds.specs.Steps.{refineOf}
+use Rattle.rounds.specs.Unrefused.{Refinable}
+use Rattle.rounds.proofs.Answered.{more-told}
+use Rattle.rounds.proofs.Refusals.{refine-0}
+use Rattle.rounds.proofs.Opened.{later-points}
+
+module _ (s : Session) (floats : List Float) where
+  abbrev moved : ℕ
+  moved = largestMove (laterRound s floats) (heldRound s)
+
+  held-points : heldRound s .points ≡ s .points
+  unfolding heldRound roundOf
+  held-points = refl
+
+  -- its size
+  pub moved-within : Refinable s floats → moved ≤ 2 ^ 53 * D
+  moved-within r = move-within (laterRound s floats) (heldRound s) (later-points s floats ∙ sym held-points) (r .points-range) (keeps-rules s (r .standing) .points-range)
+
+  module _ (c : Reported) where
+    pub more-over : refineOf s floats .answer .outcome ≡ More c → (c ≡ reportedChange moved) × (s .tolerance * D < moved)
+    more-over h = let (e, (f, g)) = more-told s floats c h in (g, move-over (laterRound s floats) (heldRound s) (s .tolerance) f)
+
+    pub more-not-zero : refineOf s floats .answer .outcome ≡ More c → c .exact ≡ exactOf (pos 0) → ⊥
+    unfolding reportedChange
+    more-not-zero h z =
+        let (f, l) = more-over h in
+        let g = sym (numerator-exactOf (pos moved)) ∙ ap (λ r. numerator (r .exact)) (sym f) ∙ ap numerator z ∙ numerator-exactOf (pos 0) in
+        omega integers
+
+    pub more-within : refineOf s floats .answer .outcome ≡ More c → moved ≤ 2 ^ 53 * D
+    more-within h = let (e, (f, g)) = more-told s floats c h in moved-within (refine-0 s floats .0 e)

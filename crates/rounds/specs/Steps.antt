@@ -1,0 +1,79 @@
+-- The two calls of a start: the record that each leaves, and its answer. Definitions only.
+use Prim.Native.Nat.{ℕ, zero, suc, _+_}
+use mathlib.Core.Bool.{Bool, true, false, cond}
+use mathlib.Core.List.{List}
+use lib.Dec.{eqb}
+use lib.Ieee.{Float}
+use Rattle.session.specs.declared.Point.{Point}
+use Rattle.session.specs.declared.Session.{Session}
+use Rattle.session.specs.Moves.{estimateOf, closedSession}
+use Rattle.starting.specs.declared.Round.{Round}
+use Rattle.starting.specs.Rounds.{roundsAgree, largestMove}
+use Rattle.starting.specs.Records.{heldRound, startingSession, openedRound}
+use Rattle.steps.specs.declared.Start.{Start}
+use Rattle.steps.specs.Answers.{reportedChange, noChange, unless}
+use Rattle.steps.specs.Opening.{wholePoint}
+use Rattle.rounds.specs.declared.AfterRound.{AfterRound}
+use Rattle.rounds.specs.declared.RoundAnswer.{RoundAnswer}
+use Rattle.rounds.specs.declared.Outcome.{Outcome}
+use Rattle.rounds.specs.declared.Outcome.the-variants.{More, Opened, Refused}
+use Rattle.rounds.specs.Answers.{roundPoints, noPoints, RoundValues, values}
+use Rattle.rounds.specs.Refusals.{givenRound, startRefusal, laterRound, refineRefusal}
+
+abbrev pub told : Outcome → Round → RoundAnswer
+told outcome r = record { outcome = outcome; points = roundPoints r }
+
+abbrev pub refused : ℕ → RoundAnswer
+refused n = record { outcome = Refused n; points = noPoints }
+
+-- starting from a round, after so many later ones
+abbrev pub startingFrom : ℕ → ℕ → ℕ → Point → Round → Session
+startingFrom tolerance limit rounds epoch r = startingSession (r .points) tolerance limit rounds epoch (r .x .samples) (r .y .samples) (r .z .samples)
+
+-- ---- a first round: whatever the record held before; it always asks for more, and was compared with nothing
+
+abbrev pub startBy : ℕ → ℕ → ℕ → Point → Round → AfterRound
+startBy zero tolerance limit epoch r = record { session = startingFrom tolerance limit 0 epoch r; answer = told (More noChange) r }
+startBy (suc n) tolerance limit epoch r = record { session = closedSession; answer = refused (suc n) }
+
+unfoldable pub startOf : ℕ → ℕ → ℕ → Start → List Float → AfterRound
+startOf p tolerance limit epoch floats =
+    startBy (startRefusal p tolerance limit epoch floats) tolerance limit (wholePoint epoch) (givenRound p (wholePoint epoch) floats)
+
+-- ---- a later round
+
+-- nothing moved beyond the tolerance, and the session opens, or something did, and more is asked for
+abbrev pub judgedRound : Bool → Session → Round → AfterRound
+judgedRound true s r = record { session = openedRound (s .tolerance) (s .limit) r; answer = told Opened r }
+judgedRound false s r =
+    record {
+      session = startingFrom (s .tolerance) (s .limit) (s .corrections + 1) (estimateOf s) r;
+      answer = told (More (reportedChange (largestMove r (heldRound s)))) r;
+    }
+
+-- 8 closes the record; every other refusal leaves it as it was
+abbrev pub refineBy : ℕ → Session → Round → AfterRound
+refineBy zero s r = judgedRound (roundsAgree (s .tolerance) r (heldRound s)) s r
+refineBy (suc n) s r = record { session = cond (eqb (suc n) 8) closedSession s; answer = refused (suc n) }
+
+unfoldable pub refineOf : Session → List Float → AfterRound
+refineOf s floats = refineBy (refineRefusal s floats) s (laterRound s floats)
+
+-- ---- what each call answers, in the paper's shape
+
+abbrev pub startAnswer : ℕ → ℕ → ℕ → Start → List Float → RoundValues
+startAnswer p tolerance limit epoch floats =
+    let n = startRefusal p tolerance limit epoch floats in
+    values n (unless n 2 0) noChange (unless n (roundPoints (givenRound p (wholePoint epoch) floats)) noPoints)
+
+-- kind 3 without a change, or 2 with one
+abbrev pub refineAnswerBy : ℕ → Session → Round → RoundValues
+refineAnswerBy n s r =
+    let agreed = roundsAgree (s .tolerance) r (heldRound s) in
+    values n
+    (unless n (cond agreed 3 2) 0)
+    (unless n (cond agreed noChange (reportedChange (largestMove r (heldRound s)))) noChange)
+    (unless n (roundPoints r) noPoints)
+
+abbrev pub refineAnswer : Session → List Float → RoundValues
+refineAnswer s floats = refineAnswerBy (refineRefusal s floats) s (laterRound s floats)

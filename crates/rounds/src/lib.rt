@@ -1,0 +1,29 @@
+// A start from an epoch by value: a first round and later ones. Each gives the record that it leaves, beside the answer.
+use exact::Reported;
+use session::Session;
+use steps::ReportedPoint;
+
+mod answers;
+mod refines;
+mod starts;
+
+pub use refines::refine_step;
+pub use starts::start_step;
+
+// More is asked for, with the largest change; the session is open; or a refusal's number.
+pub enum Outcome {
+    More(Reported),
+    Opened,
+    Refused(u8),
+}
+
+// The outcome, and the points of the round, oldest first.
+pub struct RoundAnswer {
+    pub outcome: Outcome,
+    pub points: [ReportedPoint; 9],
+}
+
+pub struct AfterRound {
+    pub session: Session,
+    pub answer: RoundAnswer,
+}

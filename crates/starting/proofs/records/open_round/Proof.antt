@@ -1,0 +1,12 @@
+-- `starting::records::open_round` meets its contract: the axes are the round's.
+use mathlib.Core.Path.{refl}
+use Rattle.starting.specs.Records.{openedRound}
+use Rattle.starting.proofs.records.open_round.Statement.{statement}
+use Rattle.starting.proofs.records.open_round.Tie as tie
+
+returns : tie.Need-returns
+unfolding openedRound
+returns c = refl
+
+pub open-round-spec : {M : Type 1} → statement M
+open-round-spec = tie.close (tie.spec returns)
