@@ -64,6 +64,8 @@ of-starts I d c =
           ∙ ap (λ n. agains n (history I (I .refines s floats .session) calls)) (c .openedRound s floats e .1);
       same = λ s floats r e f a calls others g.
           d .same (startOrigin s floats) (I .refines s floats .session) (I .opens r .session) (d .started s floats e) (subst (λ o. Begins o (I .opens r .session)) (sym a) (d .begins r f)) calls others g;
+      sameStarts = λ s t xs ys e f a calls others g.
+          d .same (startOrigin s xs) (I .refines s xs .session) (I .refines t ys .session) (d .started s xs e) (subst (λ o. Begins o (I .refines t ys .session)) (sym a) (d .started t ys f)) calls others g;
     }
 
 -- ---- a record that counts as closed

@@ -56,6 +56,11 @@ pub record OfStarts (I : Implementation) : Type 0 where
       startOrigin s floats ≡ origin r → (calls others : List Call) →
       samplesOf (entries (history I (I .refines s floats .session) calls)) ≡ samplesOf (entries (history I (I .opens r .session) others)) →
       SamePoint I (after I (I .refines s floats .session) calls) (after I (I .opens r .session) others)
+  -- and alike another start
+  pub sameStarts : (s t : Session) (xs ys : List Float) → I .refines s xs .answer .outcome ≡ R.Opened → I .refines t ys .answer .outcome ≡ R.Opened →
+      startOrigin s xs ≡ startOrigin t ys → (calls others : List Call) →
+      samplesOf (entries (history I (I .refines s xs .session) calls)) ≡ samplesOf (entries (history I (I .refines t ys .session) others)) →
+      SamePoint I (after I (I .refines s xs .session) calls) (after I (I .refines t ys .session) others)
 
 -- the answer 7 to a call
 abbrev pub refused7 : Call → Event
