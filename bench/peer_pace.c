@@ -22,8 +22,8 @@ int main(int count, char **arguments)
     read_pace("peer_pace", count, arguments, &points, &steps);
     prepare();
     struct record session = {.state = CLOSED};
-    struct opening opening = {.points = (uint64_t)points, .tolerance = 1048576, .limit = 1,
-                              .samples = zeros, .length = (size_t)(AXES * points)};
+    struct opening opening = {.points = (uint64_t)points, .tolerances = {1048576, 1048576},
+                              .limit = 1, .samples = zeros, .length = (size_t)(AXES * points)};
     struct draws draws = {1};
     uint64_t checksum = 0;
     open_session(&session, &opening);

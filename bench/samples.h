@@ -2,13 +2,13 @@
  *
  * In words, for a program in another language: x begins as 1. To draw, x becomes the remainder of
  * 1103515245 * x + 12345 divided by 2147483648 (2^31), which stays below 2^62 on the way; the value
- * drawn is x divided by 32768 and rounded down (0 to 65535), less 32768, as a 64-bit float: a whole
- * number from -32768 to 32767. The sample of a point is three such draws, for x, y and z.
+ * drawn is x divided by 262144 and rounded down (0 to 8191), less 4096, as a 64-bit float: a whole
+ * number from -4096 to 4095. The sample of a point is three such draws, for x, y and z.
  *
- * The session opens with P points, tolerance 1048576, limit 1, positions, velocities and all
+ * The session opens with P points, both tolerances 1048576, limit 1, positions, velocities and all
  * opening samples 0. A step is a predict, three draws, and a correct with them. At nine points an
- * estimate moves by at most 31.3 times the largest sample, so every first correction is accepted;
- * no position leaves 2^45 within 1,000,000 steps.
+ * estimate moves by at most 31.3 times the largest sample and its velocity by at most 147 times, so
+ * every first correction is accepted; no position leaves 2^41 within 1,000,000 steps.
  *
  * The checksum begins as 0 and takes, by exclusive or, the bits of each report: three positions and
  * three velocities of each predicted point and of each accepted one. A program called with P and
@@ -31,7 +31,7 @@ struct draws {
 static inline double draw(struct draws *d)
 {
     d->x = (1103515245 * d->x + 12345) % 2147483648;
-    return (double)((int64_t)(d->x / 32768) - 32768);
+    return (double)((int64_t)(d->x / 262144) - 4096);
 }
 
 /* Takes a report into a checksum. */

@@ -22,7 +22,8 @@ static const char *const roundings[] = {"plain", "carried", "opening", "recovere
 static const char *program = "target/bin/replay";
 static enum rounding rounding = PLAIN;
 static double perigee = 300, eccentricity = 0, inclination = 40, start = 0, days = 3;
-static double points = 9, step = 30, bits = 15, tolerance = 1048576, limit = 8;
+static double points = 9, step = 30, bits = 15, limit = 8;
+static double tolerance = 1048576, velocity_tolerance = 1048576;
 
 static const struct setting {
     const char *name;
@@ -37,7 +38,8 @@ static const struct setting {
     {"points", &points, 1, 9, true},                /* back points */
     {"step", &step, 0.001, 86400, false},           /* seconds */
     {"bits", &bits, 0, 40, true},                   /* a tick is 2^-bits metre */
-    {"tolerance", &tolerance, 0, 1048576, true},    /* ticks */
+    {"tolerance", &tolerance, 0, 1048576, true},    /* of position, ticks */
+    {"velocity_tolerance", &velocity_tolerance, 0, 1048576, true}, /* ticks per step */
     {"limit", &limit, 1, 8, true},
 };
 
@@ -137,7 +139,7 @@ static void open_session(long double begin)
     char line[LINE_MOST];
     double position[AXES], velocity[AXES], place[AXES], wanted[AXES];
     struct state now = state_at(&orbit, begin);
-    sprintf(line, "open %.0f %.0f %.0f", points, tolerance, limit);
+    sprintf(line, "open %.0f %.0f %.0f %.0f", points, tolerance, velocity_tolerance, limit);
     for (int i = 0; i < AXES; i++)
         position[i] = add_whole(line, now.position[i] / tick);
     for (int i = 0; i < AXES; i++)

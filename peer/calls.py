@@ -14,10 +14,18 @@ class Calls(Script):
         rng = self.rng
         self.scale = max(1, self.size(SAMPLE_MOST - 1))
         points = points or rng.randint(1, PLACES)
-        return [points, rng.choice((0, 0, self.size(TOLERANCE_MOST), TOLERANCE_MOST)),
-                rng.randint(1, LIMIT_MOST),
+        return [points, self.tolerances(), rng.randint(1, LIMIT_MOST),
                 [self.signed(2 ** 51) for _ in AXES], [self.signed(2 ** 38) for _ in AXES],
                 [self.usable_float() for _ in range(3 * points)]]
+
+    def tolerances(self):
+        """Tolerances of position and velocity; half of the latter let pass what the former does."""
+        rng = self.rng
+        position, velocity = (rng.choice((0, 0, self.size(TOLERANCE_MOST), TOLERANCE_MOST))
+                              for _ in range(2))
+        # The velocity of a step changes by at most six times as much as its position.
+        wide = rng.choice((min(6 * position, TOLERANCE_MOST), TOLERANCE_MOST))
+        return [position, rng.choice((wide, velocity))]
 
     def centred(self, points=None):
         """The parts of a first round that is not refused."""
@@ -33,21 +41,22 @@ class Calls(Script):
         """Puts one fault or some into an opening."""
         rng = self.rng
         for _ in range(rng.choice((1, 1, 1, 2, 3))):
-            fault = rng.randrange(7)
+            fault = rng.randrange(8)
             if fault == 0:
                 o[0] = rng.choice((0, 10, 21, 22, (2 ** 64 + 2) // 3, self.wider(o[0]),
                                    rng.randint(1, 9), rng.choice(UNSIGNED)))
             elif fault == 1:
                 o[5] = self.other_length(o[5])
-            elif fault == 2:
-                o[1] = rng.choice((TOLERANCE_MOST, TOLERANCE_MOST + 1, self.wider(o[1]),
-                                   rng.choice(UNSIGNED)))
-            elif fault == 3:
+            elif fault in (2, 3):
+                kind = fault - 2
+                o[1][kind] = rng.choice((TOLERANCE_MOST, TOLERANCE_MOST + 1,
+                                         self.wider(o[1][kind]), rng.choice(UNSIGNED)))
+            elif fault == 4:
                 o[2] = rng.choice((0, 1, LIMIT_MOST, LIMIT_MOST + 1, self.wider(o[2]),
                                    rng.choice(UNSIGNED)))
-            elif fault == 4:
-                o[3][rng.randrange(3)] = self.at_bound(POSITION_BOUND)
             elif fault == 5:
+                o[3][rng.randrange(3)] = self.at_bound(POSITION_BOUND)
+            elif fault == 6:
                 o[4][rng.randrange(3)] = self.at_bound(VELOCITY_BOUND)
             elif o[5]:
                 o[5][rng.randrange(len(o[5]))] = self.some_float()
@@ -81,20 +90,26 @@ class Calls(Script):
         return self.call(refine_line(words))
 
     def near_held(self):
-        """The samples held, or others that move the outer points by about the tolerance."""
+        """The samples held, or others that move the outer points by about a tolerance."""
         rng, record, ticks = self.rng, self.record(), self.held()
         if rng.random() < 0.3:
             return self.words(ticks)
-        # A shift of all samples of an axis moves the outermost points by centre^2 / 2 times it.
+        # A shift of all samples of an axis moves the outermost points by centre^2 / 2 times it,
+        # and their velocities by centre times it.
         centre = max(1, record[POINTS] // 2)
-        shift = 2 * record[TOLERANCE] // centre ** 2
-        for axis in AXES:
+        shift = rng.choice((2 * record[POSITION_TOLERANCE] // centre ** 2,
+                            record[VELOCITY_TOLERANCE] // centre))
+        for axis in self.some_axes():
             by = rng.choice((-1, 1)) * rng.choice((0, self.size(shift), self.near(shift)))
             for at in range(axis, len(ticks), 3):
                 ticks[at] += by
         if ticks and rng.random() < 0.3:
             ticks[rng.randrange(len(ticks))] += rng.choice((-1, 1))
         return self.words(ticks)
+
+    def some_axes(self):
+        """All three axes, or one."""
+        return self.rng.choice((AXES, [self.rng.choice(AXES)]))
 
     def pulled(self):
         """Samples of a force toward the origin at the points last answered, as a host takes them."""
@@ -137,10 +152,12 @@ class Calls(Script):
             self.last_sample = self.sample()
         elif choice < 0.6:
             record = self.record()
-            # One point: the change is a twelfth of the change of sample.
-            apart = self.near(12 * record[TOLERANCE])
-            ticks = [record[axis_at(axis, SAMPLES)] + self.rng.choice((-apart, 0, apart))
-                     for axis in AXES]
+            # One point: position changes by a twelfth of the change of sample, velocity by half.
+            apart = self.near(self.rng.choice((12 * record[POSITION_TOLERANCE],
+                                               2 * record[VELOCITY_TOLERANCE])))
+            ticks = [record[axis_at(axis, SAMPLES)] for axis in AXES]
+            for axis in self.some_axes():
+                ticks[axis] += self.rng.choice((-apart, 0, apart))
             self.last_sample = [bits(float(t)) for t in ticks]
         return self.call(correct_line(self.last_sample))
 

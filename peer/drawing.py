@@ -57,7 +57,7 @@ class Script:
         if self.answer is None:
             self.present = None
         elif self.answer.call == 'open' and self.answer.number == 0:
-            numbers = [int(n) * PARTS for n in line.split()[4:10]]
+            numbers = [int(n) * PARTS for n in line.split()[5:11]]
             self.present = list(zip(numbers[:3], numbers[3:]))
         elif self.answer.kind in (ACCEPTING, OPENING):
             newest = self.record()[POINTS] - 1 if self.answer.call in ROUNDS else 0

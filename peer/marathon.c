@@ -75,7 +75,7 @@ static struct answer step(uint64_t n)
 int main(void)
 {
     double samples[PLACES * AXES];
-    struct opening given = {9, 320000, 2, {0}, {0}, samples, PLACES * AXES};
+    struct opening given = {9, {320000, 1048576}, 2, {0}, {0}, samples, PLACES * AXES};
     struct answer last = {0};
     prepare();
     for (int i = 0; i < AXES; i++) {

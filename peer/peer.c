@@ -1,25 +1,27 @@
 /* Reads a script of calls from standard input and writes each answer and the record after it. */
 /* The lines of a script:
- *   open POINTS TOLERANCE LIMIT X Y Z VX VY VZ F F ..     0 to 64 floats
+ *   open POINTS TOLERANCES LIMIT X Y Z VX VY VZ F F ..    0 to 64 floats
  *   predict
  *   correct F F F
  *   withdraw
- *   start POINTS TOLERANCE LIMIT X Y Z VX VY VZ F F ..    as open
+ *   start POINTS TOLERANCES LIMIT X Y Z VX VY VZ F F ..   as open
  *   refine F F ..                                         0 to 64 floats
- *   fill STATE POINTS TOLERANCE LIMIT ACCEPTED CORRECTIONS, then for each axis
+ *   fill STATE POINTS TOLERANCES LIMIT ACCEPTED CORRECTIONS, then for each axis
  *        S1 whole, S1 part, S2 whole, S2 part, nine samples newest first,
  *        estimate position whole, part, velocity whole, part
+ * TOLERANCES are two words, for position and for velocity.
  * Words stand apart by exactly one space, none before the first or after the last. A line ends
  * with a newline and has at most 4,096 bytes before it; what follows the last newline is no call.
- * POINTS TOLERANCE LIMIT ACCEPTED CORRECTIONS are unsigned of 64 bits, parts unsigned of 32 bits,
+ * POINTS TOLERANCES LIMIT ACCEPTED CORRECTIONS are unsigned of 64 bits, parts unsigned of 32 bits,
  * wholes, samples, X Y Z VX VY VZ signed of 64 bits, STATE is 0, 1, 2 or 3. A number is 0, or a
  * digit from 1 to 9 and then digits, a signed one also with - before it (but not -0). A float is the
  * 16 digits of its bits, 0 to 9 and a to f. At the first other line `line N: not a call` is written,
  * lines counted from 1, and nothing more is read.
  * A value is written as whole, part and the bits of its report. An answer is the name of its call,
  * NUMBER and KIND, then
- *   of a round: the change, then nine points, oldest first, each x, vx, y, vy, z, vz
- *   of another call: the point x, vx, y, vy, z, vz, then the change */
+ *   of a round: the changes, then nine points, oldest first, each x, vx, y, vy, z, vz
+ *   of another call: the point x, vx, y, vy, z, vz, then the changes
+ * where the changes are two values, the largest of position and the largest of velocity. */
 #include "rules.h"
 
 #include <inttypes.h>
@@ -110,12 +112,18 @@ static size_t float_words(struct text *t, double floats[FLOATS_MOST])
     return length;
 }
 
+static struct tolerances tolerance_words(struct text *t)
+{
+    uint64_t position = unsigned_word(t, UINT64_MAX);
+    return (struct tolerances){position, unsigned_word(t, UINT64_MAX)};
+}
+
 /* The words of an opening, whose floats go where it keeps them. */
 static struct opening opening_words(struct text *t, double floats[FLOATS_MOST])
 {
     struct opening given = {.samples = floats};
     given.points = unsigned_word(t, UINT64_MAX);
-    given.tolerance = unsigned_word(t, UINT64_MAX);
+    given.tolerances = tolerance_words(t);
     given.limit = unsigned_word(t, UINT64_MAX);
     for (int i = 0; i < AXES; i++)
         given.position[i] = signed_word(t);
@@ -153,26 +161,30 @@ static void write_exact(struct exact value)
     printf(" %" PRId64 " %" PRIu32, value.whole, value.part);
 }
 
+static void write_motion(struct motion m)
+{
+    write_value(m.position);
+    write_value(m.velocity);
+}
+
 static void write_point(const struct motion point[AXES])
 {
-    for (int i = 0; i < AXES; i++) {
-        write_value(point[i].position);
-        write_value(point[i].velocity);
-    }
+    for (int i = 0; i < AXES; i++)
+        write_motion(point[i]);
 }
 
 static void write_answer(const char *call, struct answer a)
 {
     printf("%s %d %d", call, a.number, (int)a.kind);
     write_point(a.point);
-    write_value(a.change);
+    write_motion(a.change);
     putchar('\n');
 }
 
 static void write_round(const char *call, struct round_answer a)
 {
     printf("%s %d %d", call, a.number, (int)a.kind);
-    write_value(a.change);
+    write_motion(a.change);
     for (int k = 0; k < PLACES; k++)
         write_point(a.points[k]);
     putchar('\n');
@@ -180,8 +192,11 @@ static void write_round(const char *call, struct round_answer a)
 
 static void write_record(const struct record *r)
 {
-    printf("record %" PRIu64 " %" PRIu64 " %" PRIu64 " %" PRIu64 " %" PRIu64 " %" PRIu64,
-           r->state, r->points, r->tolerance, r->limit, r->accepted, r->corrections);
+    const uint64_t numbers[] = {r->state, r->points, r->tolerances.position, r->tolerances.velocity,
+                                r->limit, r->accepted, r->corrections};
+    printf("record");
+    for (size_t i = 0; i < sizeof numbers / sizeof *numbers; i++)
+        printf(" %" PRIu64, numbers[i]);
     for (int i = 0; i < AXES; i++) {
         const struct axis *a = &r->axes[i];
         write_exact(a->first_sum);
@@ -258,7 +273,7 @@ static bool do_fill(struct record *r, struct text *t)
     struct record filled;
     filled.state = unsigned_word(t, STARTING);
     filled.points = unsigned_word(t, UINT64_MAX);
-    filled.tolerance = unsigned_word(t, UINT64_MAX);
+    filled.tolerances = tolerance_words(t);
     filled.limit = unsigned_word(t, UINT64_MAX);
     filled.accepted = unsigned_word(t, UINT64_MAX);
     filled.corrections = unsigned_word(t, UINT64_MAX);

@@ -14,9 +14,12 @@ SOURCES = ('rules.h', 'shared.h', 'rules.c', 'rounds.c', 'peer.c')
 
 PARTS = 159667200
 AXES = range(3)
-STATE, POINTS, TOLERANCE, LIMIT, ACCEPTED, CORRECTIONS = range(6)
+(STATE, POINTS, POSITION_TOLERANCE, VELOCITY_TOLERANCE, LIMIT, ACCEPTED,
+ CORRECTIONS) = range(7)
+TOLERANCES = slice(POSITION_TOLERANCE, VELOCITY_TOLERANCE + 1)
 # Where the 17 numbers of an axis begin, and what stands where among them.
-FIRST_AXIS, AXIS_LENGTH = 6, 17
+FIRST_AXIS, AXIS_LENGTH = 7, 17
+RECORD_LENGTH = FIRST_AXIS + 3 * AXIS_LENGTH
 FIRST_SUM, SECOND_SUM, SAMPLES, POSITION, VELOCITY = 0, 2, 4, 13, 15
 
 
@@ -69,9 +72,9 @@ def bits(value):
     return struct.pack('>d', value).hex()
 
 
-def open_line(points, tolerance, limit, positions, velocities, floats, call='open'):
-    """A line that opens; the floats are words."""
-    return ' '.join(map(str, [call, points, tolerance, limit,
+def open_line(points, tolerances, limit, positions, velocities, floats, call='open'):
+    """A line that opens; tolerances of position and velocity, the floats are words."""
+    return ' '.join(map(str, [call, points, *tolerances, limit,
                               *positions, *velocities, *floats]))
 
 
@@ -124,7 +127,8 @@ class Answer:
         return self.values[self.at(axis, point) + 1]
 
     def at(self, axis, point):
-        return 2 * axis + (6 * point + 1 if self.call in ROUNDS else 0)
+        return 2 * axis + (6 * point + 2 if self.call in ROUNDS else 0)
 
-    def change(self):
-        return self.values[0 if self.call in ROUNDS else -1]
+    def changes(self):
+        """The largest change of position and that of velocity."""
+        return self.values[:2] if self.call in ROUNDS else self.values[-2:]

@@ -35,7 +35,9 @@ class Records(Sessions):
         if at == STATE:
             return rng.choice(STATES)
         if at < FIRST_AXIS:
-            edges = {POINTS: (0, 1, 9, 10, max(0, old - 2), old + 2), TOLERANCE: (TOLERANCE_MOST, TOLERANCE_MOST + 1),
+            beyond = (TOLERANCE_MOST, TOLERANCE_MOST + 1)
+            edges = {POINTS: (0, 1, 9, 10, max(0, old - 2), old + 2),
+                     POSITION_TOLERANCE: beyond, VELOCITY_TOLERANCE: beyond,
                      LIMIT: (0, 1, 8, 9, record[CORRECTIONS], record[CORRECTIONS] + 1),
                      ACCEPTED: (ACCEPTED_MOST - 1, ACCEPTED_MOST, ACCEPTED_MOST + 1),
                      CORRECTIONS: (0, 1, max(0, record[LIMIT] - 1), record[LIMIT])}
@@ -101,7 +103,8 @@ class Records(Sessions):
         if self.rng.random() < 0.2 and record[STATE] == SETTLED:
             record[ACCEPTED] = ACCEPTED_MOST
         elif self.rng.random() < 0.2:
-            record[TOLERANCE], record[LIMIT] = 0, record[CORRECTIONS] + 1
+            record[LIMIT] = record[CORRECTIONS] + 1
+            record[TOLERANCES] = self.rng.choice(([0, 0], [0, TOLERANCE_MOST], [TOLERANCE_MOST, 0]))
 
     def estimate_at_bounds(self):
         """Records after a correction whose estimate lies at a bound."""
@@ -116,7 +119,7 @@ class Records(Sessions):
             self.fitting_call()
 
     def at_tolerance(self):
-        """Corrections whose change is the tolerance or a part beside it."""
+        """Corrections of which one change is its tolerance or a part beside it."""
         rng = self.rng
         record, _ = self.some_record((AWAITING,))
         record[LIMIT], record[CORRECTIONS] = LIMIT_MOST, rng.randint(1, LIMIT_MOST - 2)
@@ -126,19 +129,21 @@ class Records(Sessions):
         if answer.number != 0:
             return
         for _ in range(5):
-            record[TOLERANCE] = rng.choice((record[TOLERANCE], 0, self.size(TOLERANCE_MOST),
-                                            TOLERANCE_MOST))
+            record[TOLERANCES] = [rng.choice((old, 0, self.size(TOLERANCE_MOST), TOLERANCE_MOST))
+                                  for old in record[TOLERANCES]]
             record[LIMIT] = rng.choice((LIMIT_MOST, record[CORRECTIONS] + 1,
                                         record[CORRECTIONS] + 2))
-            edge = record[TOLERANCE] * PARTS
-            odd = rng.randrange(3)
+            odd = rng.choice(AXES), rng.randrange(2)
             for axis in AXES:
-                apart = edge - rng.choice((0, 0, self.size(edge)))
-                if axis == odd:
-                    apart = edge + rng.choice((-PARTS, -1, 0, 0, 1, 1, PARTS, self.size(2 ** 80)))
-                at = axis_at(axis, POSITION)
-                record[at:at + 2] = divmod(answer.position(axis) + rng.choice((-apart, apart)),
-                                           PARTS)
+                for kind, what in enumerate((POSITION, VELOCITY)):
+                    edge = record[POSITION_TOLERANCE + kind] * PARTS
+                    apart = edge - rng.choice((0, 0, self.size(edge)))
+                    if (axis, kind) == odd:
+                        apart = edge + rng.choice((-PARTS, -1, 0, 0, 1, 1, PARTS,
+                                                   self.size(2 ** (80 - 12 * kind))))
+                    found = answer.values[2 * axis + kind]
+                    at = axis_at(axis, what)
+                    record[at:at + 2] = divmod(found + rng.choice((-apart, apart)), PARTS)
             self.fill(record)
             self.call(correct_line(sample))
 
@@ -157,7 +162,7 @@ class Records(Sessions):
             return self.random_start()
         points, limit = rng.randint(1, PLACES), rng.randint(1, LIMIT_MOST)
         waits = state == AWAITING
-        record = [state, points, self.size(TOLERANCE_MOST), limit,
+        record = [state, points, *self.tolerances(), limit,
                   rng.choice((self.size(ACCEPTED_MOST), ACCEPTED_MOST)) if not waits
                   else self.size(ACCEPTED_MOST - 1),
                   rng.randrange(limit) if waits else 0]
@@ -174,7 +179,7 @@ class Records(Sessions):
         """A starting record with every field in its range."""
         rng = self.rng
         points, limit = rng.choice(SIZES_WITH_CENTRE), rng.randint(1, LIMIT_MOST)
-        record = [STARTING, points, self.size(TOLERANCE_MOST), limit, 0, rng.randrange(limit)]
+        record = [STARTING, points, *self.tolerances(), limit, 0, rng.randrange(limit)]
         scale = max(1, self.size(SAMPLE_MOST))
         for _ in AXES:
             record += [0] * 4 + self.random_samples(points, scale)
@@ -205,7 +210,7 @@ class Records(Sessions):
 
         def number(edges, most, least=0):
             return rng.choice((rng.choice(edges), rng.randint(least, most)))
-        record = [rng.choice(STATES)] + [number(UNSIGNED, U64) for _ in range(5)]
+        record = [rng.choice(STATES)] + [number(UNSIGNED, U64) for _ in range(1, FIRST_AXIS)]
         for _ in AXES:
             exact = [[number(SIGNED, I64, -I64 - 1), number(PART, U32)] for _ in range(4)]
             samples = [number(SIGNED, I64, -I64 - 1) for _ in range(PLACES)]

@@ -7,6 +7,7 @@ from program import *
 
 SIZES = (3, 5, 7, 9)
 AGAIN, OPENED = 2, 3
+NEAR = (5, 3)  # tolerances of position and velocity
 STARTING, SETTLED = 3, 1
 
 
@@ -104,7 +105,7 @@ def drawn_rounds(answers, expect):
         settled = [[rng.randint(-2 ** 24, 2 ** 24) for _ in range(points)] for _ in AXES]
         rounds = [[[tick + rng.randint(-size, size) for tick in axis] for axis in settled]
                   for size in (2 ** 24, 2 ** 16, 2 ** 8, 0, 0)]
-        lines = [start_line(points, 5, 8, *epoch, words(rounds[0])),
+        lines = [start_line(points, NEAR, 8, *epoch, words(rounds[0])),
                  *(refine_line(words(samples)) for samples in rounds[1:])]
         before, is_open = None, False
         for count, (samples, (answer, record)) in enumerate(zip(rounds, answers(*lines))):
@@ -115,22 +116,23 @@ def drawn_rounds(answers, expect):
             found = [worked_out(epoch[0][axis], epoch[1][axis], samples[axis]) for axis in AXES]
             now = [[tuple(map(in_parts, point)) for point in axis] for axis, _ in found]
             expect(f'{label}: points', answered(answer, points), now)
-            expect(f'{label}: unused places', any(answer.values[6 * points + 1:]), False)
+            expect(f'{label}: unused places', any(answer.values[6 * points + 2:]), False)
             expect(f'{label}: epoch', [axis[points // 2] for axis in answered(answer, points)],
                    [tuple(map(in_parts, point)) for point in zip(*epoch)])
-            change = max((abs(new[0] - old[0]) for axis, last in zip(now, before or now)
-                          for new, old in zip(axis, last)))
-            is_open = count > 0 and change <= in_parts(5)
-            expect(f'{label}: answer', (answer.number, answer.kind, answer.change()),
-                   (0, OPENED if is_open else AGAIN, 0 if is_open else change))
+            changes = [max(abs(new[kind] - old[kind]) for axis, last in zip(now, before or now)
+                           for new, old in zip(axis, last)) for kind in range(2)]
+            is_open = count > 0 and all(change <= in_parts(most)
+                                        for change, most in zip(changes, NEAR))
+            expect(f'{label}: answer', (answer.number, answer.kind, answer.changes()),
+                   (0, OPENED if is_open else AGAIN, [0, 0] if is_open else changes))
             expect(f'{label}: record', record, left(points, count, epoch, samples, found, is_open))
             before = now
         expect(f'{points} points: opened', is_open, True)
 
 
 def left(points, count, epoch, samples, found, is_open):
-    """The record after a round of tolerance 5 and limit 8."""
-    record = [SETTLED if is_open else STARTING, points, 5, 8, 0, 0 if is_open else count]
+    """The record after a round of limit 8."""
+    record = [SETTLED if is_open else STARTING, points, *NEAR, 8, 0, 0 if is_open else count]
     for axis in AXES:
         sums = [divmod(in_parts(value), PARTS) for value in found[axis][1]]
         held = [0, 0, 0, 0] if is_open else [epoch[0][axis], 0, epoch[1][axis], 0]
@@ -162,7 +164,7 @@ def known_motion(answers, expect):
             times = range(-centre, centre + 1)
             floats = words([[sample(axis, time) for time in reversed(times)] for axis in AXES])
             (first, _), (second, _), (next_point, _) = answers(
-                start_line(points, 0, 1, *epoch, floats), refine_line(floats), 'predict')
+                start_line(points, (0, 0), 1, *epoch, floats), refine_line(floats), 'predict')
             wanted = [[place(axis, time) for time in times] for axis in AXES]
             label = f'{points} points, degree {degree}'
             expect(f'{label}: first round', answered(first, points), wanted)
@@ -184,7 +186,7 @@ def refused_first(answers, expect):
             (4, 3, 1, far - 1, 1, [large] * 8 + [nan]), (5, 3, 1, far - 1, 1, [large] * 9),
             (6, 3, 1, far - 1, 1, [nothing] * 9), (0, 3, 1, far - 2, 1, [nothing] * 9),
             (6, 9, 1, 3 - far, 1, [nothing] * 27), (0, 9, 1, 4 - far, 1, [nothing] * 27)]:
-        line = start_line(points, 0, limit, [0, position, 0], [0, velocity, 0], floats)
+        line = start_line(points, (0, 0), limit, [0, position, 0], [0, velocity, 0], floats)
         answer, record = answers(line)[0]
         expect(f'{number} of {line}', (answer.number, answer.kind, any(record)),
                (number, 0 if number else AGAIN, number == 0))
@@ -193,14 +195,14 @@ def refused_first(answers, expect):
 def refused_later(answers, expect):
     """Later rounds that are refused leave what they found, but 8, which closes."""
     nothing, nan, large, some = bits(0.0), bits(math.nan), bits(268435457.0), bits(12.0)
-    line = start_line(3, 0, 1, [2 ** 52 - 2, 0, 0], [1, 0, 0], [nothing] * 9)
+    line = start_line(3, (0, 0), 1, [2 ** 52 - 2, 0, 0], [1, 0, 0], [nothing] * 9)
     for number, floats in [(2, [nan] * 8), (4, [large] * 8 + [nan]), (5, [large] * 9),
                            (6, [some] * 9), (8, [nothing, nothing, some] * 3)]:
         (_, before), (answer, after) = answers(line, refine_line(floats))
         expect(f'{number} of a later round', (answer.number, answer.kind, any(answer.values)),
                (number, 0, False))
         expect(f'record after {number}', after, [0] * len(before) if number == 8 else before)
-    opening = open_line(3, 0, 1, [0] * 3, [0] * 3, [nothing] * 9)
+    opening = open_line(3, (0, 0), 1, [0] * 3, [0] * 3, [nothing] * 9)
     for before in ([], [opening], [opening, 'predict'], [line, refine_line([nothing] * 9)]):
         answer, _ = answers(*before, refine_line([nan]))[-1]
         expect(f'7 of a later round after {before}', answer.number, 7)
@@ -209,9 +211,35 @@ def refused_later(answers, expect):
         expect(f'{call} while starting', (answer.number, after), (7, before))
 
 
+def moved_at_one_end(answers, expect):
+    """A sample of 12 at one end of three: by its parabola 6 t^2 - 6 t the point there moves by 3/2 and its
+    velocity by 5, the other end by 1/2 and 1, the epoch not at all."""
+    half, tick, nothing = PARTS // 2, PARTS, bits(0.0)
+    start = ([1000, 0, 0], [10, 0, 0], [nothing] * 9)
+    for axis in AXES:
+        for end in (0, 2):
+            floats = [nothing] * 9
+            floats[3 * end + axis] = bits(12.0)
+            for tolerances, limit, number, kind in [
+                    ((2, 5), 1, 0, OPENED), ((2, 4), 2, 0, AGAIN), ((1, 5), 2, 0, AGAIN),
+                    ((1, 4), 2, 0, AGAIN), ((5, 2), 2, 0, AGAIN), ((1048576, 0), 2, 0, AGAIN),
+                    ((2, 4), 1, 8, 0), ((1, 5), 1, 8, 0)]:
+                _, (answer, record) = answers(start_line(3, tolerances, limit, *start),
+                                              refine_line(floats))
+                label = f'axis {axis}, end {end}, tolerances {tolerances}, limit {limit}'
+                changes = [tick + half, 5 * tick] if kind == AGAIN else [0, 0]
+                expect(label, (answer.number, answer.kind, answer.changes()),
+                       (number, kind, changes))
+                expect(f'{label}: state', record[STATE],
+                       {OPENED: SETTLED, AGAIN: STARTING, 0: 0}[kind])
+                expect(f'{label}: settings', record[TOLERANCES],
+                       list(tolerances) if number == 0 else [0, 0])
+
+
 def check(answers, expect, table_c, table_l):
     coefficients(expect, table_c, table_l)
     refused_first(answers, expect)
     refused_later(answers, expect)
+    moved_at_one_end(answers, expect)
     drawn_rounds(answers, expect)
     known_motion(answers, expect)

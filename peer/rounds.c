@@ -61,17 +61,14 @@ static bool work_out(const struct record *r, struct course courses[AXES])
     return true;
 }
 
-/* The size of the largest move of a position from one round to another. */
-static wide largest_move(const struct course before[AXES], const struct course after[AXES],
-                         uint64_t points)
+/* The largest changes at any point from one round to another. */
+static struct motion largest_moves(const struct course before[AXES],
+                                   const struct course after[AXES], uint64_t points)
 {
-    wide largest = 0;
+    struct motion largest = {0, 0};
     for (int i = 0; i < AXES; i++)
-        for (uint64_t j = 0; j < points; j++) {
-            wide move = after[i].at[j].position - before[i].at[j].position;
-            wide size = move < 0 ? -move : move;
-            largest = size > largest ? size : largest;
-        }
+        for (uint64_t j = 0; j < points; j++)
+            take_changes(&largest, before[i].at[j], after[i].at[j]);
     return largest;
 }
 
@@ -97,7 +94,7 @@ static bool axis_stands(const struct axis *a, uint64_t points)
 static bool stands(const struct record *r, struct course courses[AXES])
 {
     if (!points_in_range(r->points) || !has_centre(r->points) ||
-        !settings_in_range(r->tolerance, r->limit) || r->accepted != 0 ||
+        !settings_in_range(r->tolerances, r->limit) || r->accepted != 0 ||
         r->corrections >= r->limit)
         return false;
     for (int i = 0; i < AXES; i++)
@@ -129,7 +126,7 @@ static struct round_answer closed(struct record *r, int number)
     return refused(number);
 }
 
-static struct round_answer answered(enum kind kind, wide change,
+static struct round_answer answered(enum kind kind, struct motion change,
                                     const struct course courses[AXES], uint64_t points)
 {
     struct round_answer result = {.kind = kind, .change = change};
@@ -151,13 +148,13 @@ struct round_answer first_round(struct record *r, const struct opening *given)
     if (number != 0)
         return closed(r, number);
     *r = (struct record){.state = STARTING, .points = given->points,
-                         .tolerance = given->tolerance, .limit = given->limit};
+                         .tolerances = given->tolerances, .limit = given->limit};
     hold_samples(r, ticks);
     for (int i = 0; i < AXES; i++)
         set_estimate(&r->axes[i], given_point(given, i));
     if (!work_out(r, courses))
         return closed(r, 6);
-    return answered(AGAIN, 0, courses, r->points);
+    return answered(AGAIN, (struct motion){0, 0}, courses, r->points);
 }
 
 struct round_answer later_round(struct record *r, const double *samples, size_t length)
@@ -175,11 +172,11 @@ struct round_answer later_round(struct record *r, const double *samples, size_t 
     hold_samples(&next, ticks);
     if (!work_out(&next, after))
         return refused(6);
-    wide change = largest_move(before, after, r->points);
-    if (change <= (wide)r->tolerance * PARTS) {
+    struct motion change = largest_moves(before, after, r->points);
+    if (agrees(change, r->tolerances)) {
         open_at(&next, after);
         *r = next;
-        return answered(OPENED, 0, after, r->points);
+        return answered(OPENED, (struct motion){0, 0}, after, r->points);
     }
     if (r->corrections + 1 >= r->limit)
         return closed(r, 8);

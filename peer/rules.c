@@ -194,6 +194,26 @@ static void push(int64_t *samples, uint64_t points, int64_t newest)
     samples[0] = newest;
 }
 
+/* Agreement */
+
+static wide larger(wide largest, wide change)
+{
+    wide size = change < 0 ? -change : change;
+    return size > largest ? size : largest;
+}
+
+void take_changes(struct motion *largest, struct motion before, struct motion after)
+{
+    largest->position = larger(largest->position, after.position - before.position);
+    largest->velocity = larger(largest->velocity, after.velocity - before.velocity);
+}
+
+bool agrees(struct motion largest, struct tolerances tolerances)
+{
+    return largest.position <= (wide)tolerances.position * PARTS &&
+           largest.velocity <= (wide)tolerances.velocity * PARTS;
+}
+
 /* Records */
 
 bool points_in_range(uint64_t points)
@@ -201,9 +221,10 @@ bool points_in_range(uint64_t points)
     return points >= 1 && points <= PLACES;
 }
 
-bool settings_in_range(uint64_t tolerance, uint64_t limit)
+bool settings_in_range(struct tolerances tolerances, uint64_t limit)
 {
-    return tolerance <= TOLERANCE_MOST && limit >= 1 && limit <= LIMIT_MOST;
+    return tolerances.position <= TOLERANCE_MOST && tolerances.velocity <= TOLERANCE_MOST &&
+           limit >= 1 && limit <= LIMIT_MOST;
 }
 
 bool samples_stand(const struct axis *a, uint64_t points)
@@ -255,7 +276,7 @@ static bool axis_stands(const struct record *r, const struct axis *a)
 /* Whether the settled or awaiting record does not count as closed. */
 static bool stands(const struct record *r)
 {
-    if (!points_in_range(r->points) || !settings_in_range(r->tolerance, r->limit) ||
+    if (!points_in_range(r->points) || !settings_in_range(r->tolerances, r->limit) ||
         r->accepted > ACCEPTED_MOST)
         return false;
     if (r->state == SETTLED && r->corrections != 0)
@@ -310,7 +331,7 @@ int refusal_of(const struct opening *given, int64_t *ticks)
 {
     if (given->length != AXES * given->points)
         return 2;
-    if (!settings_in_range(given->tolerance, given->limit))
+    if (!settings_in_range(given->tolerances, given->limit))
         return 3;
     for (int i = 0; i < AXES; i++)
         if (!in_range(given_point(given, i)))
@@ -327,7 +348,7 @@ struct answer open_session(struct record *r, const struct opening *given)
     if (number != 0)
         return close_session(r, number);
     *r = (struct record){.state = SETTLED, .points = given->points,
-                         .tolerance = given->tolerance, .limit = given->limit};
+                         .tolerances = given->tolerances, .limit = given->limit};
     hold_samples(r, ticks);
     for (int i = 0; i < AXES; i++)
         open_axis(&r->axes[i], given->points, given_point(given, i));
@@ -374,15 +395,12 @@ static struct motion corrected_with(struct axis a, uint64_t points, int64_t tick
                      a.samples, points);
 }
 
-/* The size of the largest change of position from the estimate held. */
-static wide largest_change(const struct record *r, const struct motion point[AXES])
+/* The largest changes from the estimate held. */
+static struct motion largest_changes(const struct record *r, const struct motion point[AXES])
 {
-    wide largest = 0;
-    for (int i = 0; i < AXES; i++) {
-        wide change = point[i].position - parts(r->axes[i].position);
-        wide size = change < 0 ? -change : change;
-        largest = size > largest ? size : largest;
-    }
+    struct motion largest = {0, 0};
+    for (int i = 0; i < AXES; i++)
+        take_changes(&largest, estimate(&r->axes[i]), point[i]);
     return largest;
 }
 
@@ -400,8 +418,8 @@ struct answer correct(struct record *r, const double sample[AXES])
         if (!in_range(result.point[i]))
             return bare(6);
     }
-    wide change = largest_change(r, result.point);
-    if (change <= (wide)r->tolerance * PARTS) {
+    struct motion change = largest_changes(r, result.point);
+    if (agrees(change, r->tolerances)) {
         accept(r, ticks);
         return result;
     }

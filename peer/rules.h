@@ -28,8 +28,15 @@ struct axis {
     struct exact position, velocity; /* the estimate; while starting the epoch */
 };
 
+/* In ticks and in ticks per step: how far a point may move and still agree. */
+struct tolerances {
+    uint64_t position, velocity;
+};
+
 struct record {
-    uint64_t state, points, tolerance, limit, accepted;
+    uint64_t state, points;
+    struct tolerances tolerances;
+    uint64_t limit, accepted;
     uint64_t corrections; /* while starting the later rounds */
     struct axis axes[AXES];
 };
@@ -43,20 +50,22 @@ struct answer {
     int number;
     enum kind kind;
     struct motion point[AXES];
-    wide change;
+    struct motion change; /* the largest of each kind, as sizes */
 };
 
 /* What a round answers; points oldest first, unused places zero. */
 struct round_answer {
     int number;
     enum kind kind;
-    wide change;
+    struct motion change;
     struct motion points[PLACES][AXES];
 };
 
 /* What open and a first round are given; samples oldest point first. */
 struct opening {
-    uint64_t points, tolerance, limit;
+    uint64_t points;
+    struct tolerances tolerances;
+    uint64_t limit;
     int64_t position[AXES], velocity[AXES];
     const double *samples;
     size_t length;

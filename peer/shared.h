@@ -12,7 +12,7 @@ extern int64_t adams_corrector[PLACES + 1], cowell_corrector[PLACES + 2];
 wide parts(struct exact value);
 bool in_range(struct motion m);
 bool points_in_range(uint64_t points);
-bool settings_in_range(uint64_t tolerance, uint64_t limit);
+bool settings_in_range(struct tolerances tolerances, uint64_t limit);
 
 /* The number 4 or 5 if one of the samples calls for it, else 0; ticks takes the rounded ones. */
 int round_all(const double *given, size_t length, int64_t *ticks);
@@ -35,6 +35,12 @@ bool samples_stand(const struct axis *a, uint64_t points);
 
 /* Puts rounded samples, oldest point first, in place of those of the record. */
 void hold_samples(struct record *r, const int64_t *ticks);
+
+/* Takes the sizes of an axis's changes from one estimate to another into the largest so far. */
+void take_changes(struct motion *largest, struct motion before, struct motion after);
+
+/* Whether the largest changes of each kind are within their tolerances. */
+bool agrees(struct motion largest, struct tolerances tolerances);
 
 /* Settled at the point of the sums. */
 void settle(struct record *r);

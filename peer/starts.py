@@ -23,7 +23,9 @@ class Starts(Records):
         """A host that takes its samples from the points of the round before, and steps on."""
         o = self.centred()
         self.scale = SAMPLE_MOST - 1
-        o[1], o[2] = self.rng.choice((0, 1, 1, self.size(2 ** 10), o[1])), LIMIT_MOST
+        o[1][0] = self.rng.choice((0, 1, 1, self.size(2 ** 10), o[1][0]))
+        o[1][1] = self.rng.choice((o[1][0], TOLERANCE_MOST, TOLERANCE_MOST, o[1][1]))
+        o[2] = LIMIT_MOST
         o[3] = [self.signed(2 ** self.rng.randint(4, 33)) for _ in AXES]
         o[4] = [self.signed(2 ** self.rng.randint(4, 30)) for _ in AXES]
         self.start(o)
@@ -36,7 +38,8 @@ class Starts(Records):
         """Later rounds of new samples, with every limit and with calls that do not fit between."""
         for limit in self.rng.sample(range(1, LIMIT_MOST + 1), 4):
             o = self.centred()
-            o[1], o[2] = self.rng.choice((0, o[1])), limit
+            o[1] = self.rng.choice(([0, 0], [0, TOLERANCE_MOST], [TOLERANCE_MOST, 0], o[1]))
+            o[2] = limit
             self.start(o)
             while self.state == STARTING:
                 if self.rng.random() < 0.2:
@@ -63,7 +66,7 @@ class Starts(Records):
         """Later rounds on records of every state, as calls or the host left them."""
         for state in self.rng.sample(STATES, len(STATES)):
             if state == CLOSED:
-                self.call(open_line(0, 0, 1, [0] * 3, [0] * 3, []))
+                self.call(open_line(0, (0, 0), 1, [0] * 3, [0] * 3, []))
             elif self.rng.random() < 0.7:
                 self.fill(self.some_record((state,))[0])
             else:
@@ -137,7 +140,8 @@ class Starts(Records):
         self.fitting_call()
         if self.rng.random() < 0.5:
             # From a straight line, whose points lie elsewhere, to the samples of that round.
-            record[TOLERANCE], record[LIMIT] = self.rng.choice(((0, 1), (record[TOLERANCE], 8)))
+            record[TOLERANCES], record[LIMIT] = self.rng.choice((([0, 0], 1),
+                                                                 (record[TOLERANCES], 8)))
             record[CORRECTIONS] = 0
             for a in AXES:
                 record[axis_at(a, SAMPLES):axis_at(a, POSITION)] = [0] * PLACES
@@ -145,11 +149,11 @@ class Starts(Records):
             self.call(refine_line(self.spoilt_floats(o[5]) if self.rng.random() < 0.5 else o[5]))
 
     def rounds_at_tolerance(self):
-        """Later rounds whose largest move is the tolerance, or close to it."""
+        """Later rounds whose largest move of a kind is its tolerance, or close to it."""
         rng = self.rng
         o = self.centred()
         self.scale = min(self.scale, 2 ** 26)
-        o[1:3] = 0, LIMIT_MOST
+        o[1:3] = [0, 0], LIMIT_MOST
         o[5] = [self.usable_float() for _ in o[5]]
         self.start(o)
         record, ticks = self.record(), self.held()
@@ -159,11 +163,17 @@ class Starts(Records):
             answer = self.call(refine_line(words))
             if answer.number != 0:
                 continue
-            near = answer.change() // PARTS + rng.choice((-1, 0, 0, 0, 1))
-            again = list(record)
-            again[TOLERANCE] = max(0, min(TOLERANCE_MOST, near))
-            again[CORRECTIONS] = rng.choice((0, 1, LIMIT_MOST - 1))
-            self.fill(again)
+            o[1] = [max(0, min(TOLERANCE_MOST, change // PARTS + rng.choice((-1, 0, 0, 0, 1))))
+                    for change in answer.changes()]
+            if rng.random() < 0.7:
+                o[1][rng.randrange(2)] = TOLERANCE_MOST
+            if rng.random() < 0.5:
+                self.start(o)
+            else:
+                again = list(record)
+                again[TOLERANCES] = o[1]
+                again[CORRECTIONS] = rng.choice((0, 1, LIMIT_MOST - 1))
+                self.fill(again)
             self.call(refine_line(words))
 
     def shifted(self, ticks):

@@ -1,12 +1,15 @@
 #!/usr/bin/env python3
 """Writes orbit.script: a low circular orbit of 200 points, its calls made one by one on a program named as the argument."""
 import math
+import os
 import pathlib
 import struct
 import subprocess
 import sys
 
-POINTS, TOLERANCE, LIMIT, STEPS = 9, 1, 6, 200
+POINTS, LIMIT, STEPS = 9, 6, 200
+# Of position and of velocity, the widest one.
+TOLERANCES = 1, 1048576
 # A tick is a hundredth of a millimetre, a step ten seconds.
 TICK, STEP = 1e-5, 10.0
 EARTH = 3.986004418e14 / TICK ** 3 * STEP ** 2
@@ -36,7 +39,7 @@ def words(floats):
 def first_line(call, samples):
     """The line of an opening or a first round whose point is point 0."""
     position, velocity = ([round(x) for x in part] for part in placed(0))
-    return ' '.join(map(str, [call, POINTS, TOLERANCE, LIMIT, *position, *velocity, words(samples)]))
+    return ' '.join(map(str, [call, POINTS, *TOLERANCES, LIMIT, *position, *velocity, words(samples)]))
 
 
 class Calls:
@@ -45,18 +48,25 @@ class Calls:
     def __init__(self):
         if len(sys.argv) != 2:
             sys.exit(f'{sys.argv[0]}: name the program to make the calls on')
-        self.program = subprocess.Popen([sys.argv[1]], stdin=subprocess.PIPE, stdout=subprocess.PIPE)
+        try:
+            self.program = subprocess.Popen([sys.argv[1]], stdin=subprocess.PIPE, stdout=subprocess.PIPE)
+        except OSError:
+            sys.exit(f'{sys.argv[0]}: {sys.argv[1]} is no program')
         self.lines = []
 
     def call(self, line):
         """The kind of the answer and all its reports; no refusal is expected."""
         self.lines.append(line + '\n')
-        self.program.stdin.write(self.lines[-1].encode())
-        self.program.stdin.flush()
+        try:
+            os.write(self.program.stdin.fileno(), self.lines[-1].encode())
+        except BrokenPipeError:
+            pass  # no answer comes then
         answer = self.program.stdout.readline().decode().split()
-        self.program.stdout.readline()
+        if not answer or answer[0] != line.split()[0]:
+            sys.exit(f'{sys.argv[0]}: {sys.argv[1]} does not answer line {len(self.lines)}')
         if answer[1] != '0':
             sys.exit(f'{sys.argv[0]}: refused {answer[1]}')
+        self.program.stdout.readline()
         return int(answer[2]), [struct.unpack('>d', bytes.fromhex(word))[0] for word in answer[5::3]]
 
     def step(self):

@@ -1,19 +1,22 @@
--- The change between two estimates: it has a report, and it is 0 between equal ones.
-use mathlib.Core.Path.{_≡_, ap}
+-- The changes between two motions: each has a report, is 0 between equal ones, and is within its tolerance exactly when they agree.
+use mathlib.Core.Path.{_≡_, refl, ap}
 use mathlib.Core.Logic.{_↔_}
 use mathlib.Core.Bool.{true}
-use Prim.Native.Nat.{ℕ, _*_, _^_, _≤_, zero-le}
+use Prim.Native.Nat.{ℕ, _*_, _^_, _≤_, max, zero-le}
 use native.Mathlib.Omega.{arith}
 use borrow.Author.Tests.{leb-true, le-leb}
 use lib.IntN.{natAbs, pos, _-ℤ_, +ℤ-invr}
-use Rattle.integers.specs.Tests.{joined}
+use Rattle.integers.specs.Tests.{_and_, joined}
 use Rattle.integers.specs.Parts.{natAbs-parts, one-part, difference-parts}
-use Rattle.exact.specs.Numerator.{D, exactOf, numerator}
-use Rattle.exact.specs.Laws.{same-true, same-refl}
-use Rattle.exact.specs.Bounds.{numerator-within}
+use Rattle.exact.specs.Numerator.{D, exactOf, numerator, Bounded}
+use Rattle.exact.specs.Laws.{part-below, same-true, same-refl, larger-size}
+use Rattle.exact.specs.Bounds.{numerator-within, widen}
 use Rattle.axis.specs.declared.Motion.{Motion}
-use Rattle.axis.specs.Estimates.{sameMotion, changeOf, agreesOn}
-use Rattle.axis.specs.Ready.{Placed}
+use Rattle.axis.specs.declared.Tolerances.{Tolerances}
+use Rattle.axis.specs.Formulas.{motionOf, still}
+use Rattle.axis.specs.Estimates.{sameMotion}
+use Rattle.axis.specs.Agreement.{Kind, ofPosition, ofVelocity, valueOf, toleranceOf, apartBy, changeOf, sizes, largerMotion, within, agreesOn}
+use Rattle.axis.specs.Ready.{Placed, Proper}
 
 -- ---- equal motions
 
@@ -29,26 +32,60 @@ motions-same m n t =
 
 -- ---- changes
 
-pub no-change : (m : Motion) → changeOf m m ≡ 0
+pub no-change : (m : Motion) (kind : Kind) → changeOf m m kind ≡ 0
 unfolding changeOf
-no-change m = ap natAbs (+ℤ-invr (numerator (m .position)))
+no-change m kind = ap natAbs (+ℤ-invr (numerator (valueOf kind m)))
 
-pub change-within : (m n : Motion) → Placed m → Placed n → changeOf m n ≤ 2 ^ 53 * D
+-- a position and a velocity in range are at most 2^52 ticks from 0
+placed-value : (m : Motion) → Placed m → (kind : Kind) → Bounded (2 ^ 52) (valueOf kind m)
+placed-value m p ofPosition = p .position
+placed-value m p ofVelocity = widen (2 ^ 52) (p .velocity) tt
+
+pub change-within : (m n : Motion) → Placed m → Placed n → (kind : Kind) → changeOf m n kind ≤ 2 ^ 53 * D
 unfolding changeOf
-change-within m n p q =
-    let d = numerator (m .position) -ℤ numerator (n .position) in
-    omega (arith, numerator-within (p .position), numerator-within (q .position), difference-parts (numerator (m .position)) (numerator (n .position)), natAbs-parts d, one-part d)
+change-within m n p q kind =
+    let e = numerator (valueOf kind m) in
+    let f = numerator (valueOf kind n) in
+    let d = e -ℤ f in
+    omega (arith, numerator-within (placed-value m p kind), numerator-within (placed-value n q kind), difference-parts e f, natAbs-parts d, one-part d)
 
 -- a size of at most 2^53 ticks has a report
 pub size-reports : (n : ℕ) → n ≤ 2 ^ 53 * D → natAbs (exactOf (pos n) .whole) ≤ 2 ^ 53
 unfolding exactOf
 size-reports n h = omega arith
 
+-- ---- sizes as exact values
+
+pub sizes-proper : (size : Kind → ℕ) → Proper (sizes size)
+unfolding sizes motionOf
+sizes-proper size = record { position = part-below (pos (size ofPosition)); velocity = part-below (pos (size ofVelocity)) }
+
+-- no change of either kind
+pub still-sizes : still ≡ sizes (λ kind. 0)
+unfolding still sizes
+still-sizes = refl
+
+-- the larger of two sizes, as a caller knows it: by a contract
+pub larger-sizes : (f g : Kind → ℕ) {r a b : Motion} → r ≡ largerMotion a b → a ≡ sizes f → b ≡ sizes g → r ≡ sizes (λ kind. max (f kind) (g kind))
+unfolding largerMotion sizes motionOf
+larger-sizes f g p a b =
+    λ i. record {
+      position = larger-size (f ofPosition) (g ofPosition) (ap (λ m. m .position) p) (ap (λ m. m .position) a) (ap (λ m. m .position) b) i;
+      velocity = larger-size (f ofVelocity) (g ofVelocity) (ap (λ m. m .velocity) p) (ap (λ m. m .velocity) a) (ap (λ m. m .velocity) b) i;
+    }
+
 -- ---- agreement
 
-pub agrees-iff : (tolerance : ℕ) (m n : Motion) → (agreesOn tolerance m n ≡ true) ↔ (changeOf m n ≤ tolerance * D)
-unfolding agreesOn
-agrees-iff tolerance m n = (leb-true (changeOf m n) (tolerance * D), le-leb (changeOf m n) (tolerance * D))
+pub agrees-iff : (t : Tolerances) (m n : Motion) → (agreesOn t m n ≡ true) ↔ ((kind : Kind) → changeOf m n kind ≤ toleranceOf kind t * D)
+unfolding agreesOn changeOf
+agrees-iff t m n = (there, back)
+  where
+    there : (within (t .position) (m .position) (n .position) and within (t .velocity) (m .velocity) (n .velocity)) ≡ true → (kind : Kind) → apartBy (valueOf kind m) (valueOf kind n) ≤ toleranceOf kind t * D
+    there h ofPosition = let (p, v) = simp joined at h in leb-true _ _ p
+    there h ofVelocity = let (p, v) = simp joined at h in leb-true _ _ v
 
-pub agrees-same : (tolerance : ℕ) (m : Motion) → agreesOn tolerance m m ≡ true
-agrees-same tolerance m = agrees-iff tolerance m m .1 (rw (no-change m) zero-le)
+    back : ((kind : Kind) → apartBy (valueOf kind m) (valueOf kind n) ≤ toleranceOf kind t * D) → (within (t .position) (m .position) (n .position) and within (t .velocity) (m .velocity) (n .velocity)) ≡ true
+    back h = simp joined (le-leb _ _ (h ofPosition), le-leb _ _ (h ofVelocity))
+
+pub agrees-same : (t : Tolerances) (m : Motion) → agreesOn t m m ≡ true
+agrees-same t m = agrees-iff t m m .1 (λ kind. rw (no-change m kind) zero-le)

@@ -1,5 +1,6 @@
 -- What the contracts of `axis` cite.
 pub mod Formulas
 pub mod Estimates
+pub mod Agreement
 pub mod Holding
 pub mod Ready

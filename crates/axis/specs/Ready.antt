@@ -1,9 +1,10 @@
 -- What the arithmetic of an axis asks, so that nothing leaves its type. An axis that holds has it.
-use Prim.Native.Nat.{ℕ, _≤_, _^_}
-use Rattle.exact.specs.Numerator.{Bounded}
+use Prim.Native.Nat.{ℕ, _≤_, _<_, _^_}
+use Rattle.exact.specs.Numerator.{D, Bounded}
 use Rattle.coefficients.specs.Formulas.{Small}
 use Rattle.axis.specs.declared.Axis.{Axis}
 use Rattle.axis.specs.declared.Motion.{Motion}
+use Rattle.axis.specs.declared.Tolerances.{Tolerances}
 
 pub record Ready (p : ℕ) (a : Axis) : Type 0 where
   pub some : (1 ≤ p) × (p ≤ 9)
@@ -15,3 +16,13 @@ pub record Ready (p : ℕ) (a : Axis) : Type 0 where
 pub record Placed (m : Motion) : Type 0 where
   pub position : Bounded (2 ^ 52) (m .position)
   pub velocity : Bounded (2 ^ 40) (m .velocity)
+
+-- both remainders are from 0 to D-1
+pub record Proper (m : Motion) : Type 0 where
+  pub position : m .position .part < D
+  pub velocity : m .velocity .part < D
+
+-- both tolerances keep to their numbers
+pub record Tolerable (t : Tolerances) : Type 0 where
+  pub position : t .position ≤ 1048576
+  pub velocity : t .velocity ≤ 1048576

@@ -1,13 +1,8 @@
-// Estimates: the one that an axis holds, and how far a corrected point is from it.
+// Estimates: the one that an axis holds, equality and the range.
 use crate::Axis;
 use crate::Motion;
-use exact::Exact;
 ghost use mathlib.Core.Path.{_≡_};
-ghost use Prim.Native.Nat.{_≤_};
-ghost use lib.IntN.{pos};
-ghost use Rattle.exact.specs.Numerator.{exactOf};
-ghost use Rattle.axis.specs.Estimates.{estimating, sameMotion, inRange, changeOf, agreesOn};
-ghost use Rattle.axis.specs.Ready.{Placed};
+ghost use Rattle.axis.specs.Estimates.{estimating, sameMotion, inRange};
 
 pub fn with_estimate(a: Axis, estimate: Motion) -> Axis
     ensures { λ r. ⌜ r ≡ estimating a estimate ⌝ }
@@ -39,24 +34,4 @@ pub fn in_range(m: Motion) -> bool
         return false;
     }
     m.velocity.is_velocity()
-}
-
-// By how much the position moved from the last estimate.
-pub fn change(m: Motion, estimate: Motion) -> Exact
-    requires { ⌜ Placed m ⌝ }
-    requires { ⌜ Placed estimate ⌝ }
-    ensures { λ r. ⌜ r ≡ exactOf (pos (changeOf m estimate)) ⌝ }
-{
-    m.position.apart(estimate.position)
-}
-
-pub fn agrees_on(tolerance: u64, m: Motion, estimate: Motion) -> bool
-    requires { ⌜ tolerance ≤ 1048576 ⌝ }
-    requires { ⌜ Placed m ⌝ }
-    requires { ⌜ Placed estimate ⌝ }
-    ensures { λ r. ⌜ r ≡ agreesOn tolerance m estimate ⌝ }
-{
-    let most = Exact::of_whole(tolerance as i64);
-    let moved = change(m, estimate);
-    moved.at_most(most)
 }

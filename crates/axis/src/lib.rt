@@ -1,12 +1,14 @@
 // One axis of a session: its sums and samples, the points that they give, and whether they keep the rules.
 use exact::Exact;
 
+mod changes;
 mod estimates;
 mod formulas;
 mod holding;
 
-pub use estimates::agrees_on;
-pub use estimates::change;
+pub use changes::agrees_on;
+pub use changes::change;
+pub use changes::larger_change;
 pub use estimates::in_range;
 pub use estimates::same_motion;
 pub use estimates::with_estimate;
@@ -27,6 +29,12 @@ pub use holding::places_hold;
 pub struct Motion {
     pub position: Exact,
     pub velocity: Exact,
+}
+
+// How far a position, in ticks, and a velocity, in ticks per step, may move and still agree.
+pub struct Tolerances {
+    pub position: u64,
+    pub velocity: u64,
 }
 
 // S1 and S2 at the last accepted point, the samples, newest first, and the last estimate.

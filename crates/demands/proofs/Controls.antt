@@ -13,6 +13,7 @@ use Rattle.coefficients.specs.Rules.{l}
 use Rattle.coefficients.specs.Formulas.{unsummedCowell, adamsMoulton, series}
 use Rattle.ticks.specs.Round.{roundedOf, ticksIn}
 use Rattle.ticks.specs.Samples.{wholeOf}
+use Rattle.session.specs.declared.Session.{Session}
 use Rattle.session.specs.Moves.{correctedPoint, settledAgain, closedSession}
 use Rattle.session.proofs.Rules.{resting}
 use Rattle.session.proofs.Kept.{closed-fails}
@@ -31,7 +32,7 @@ use Rattle.demands.proofs.Tables.{agreement, correct-table, withdraw-ta
 use Rattle.demands.proofs.Opens.{number-is, open-begins}
 use Rattle.demands.proofs.Ours.{predict-number, correct-number, withdraw-number}
 use Rattle.demands.proofs.TurnedDown.{begins}
-use Rattle.demands.proofs.Examples.{wide, narrow, once, none, start, a24, round, waiting, settledOnce, two, twice, computed}
+use Rattle.demands.proofs.Examples.{h3, widest, wide, narrow, turning, once, none, start, a24, round, waiting, settledOnce, two, twice, computed}
 
 -- a number that was computed is the answer's
 given : {m n : ℕ} → m ≡ n → NotZero n → NotZero m
@@ -88,14 +89,19 @@ adams = sym (our-calls .demand3 .unsummed (origin wide) (start wide) begins (rou
 in-ticks : secondDifference (origin wide) onX two 2 over D ≐ series l 0 3 (sample (origin wide) onX two 2)
 in-ticks = our-calls .inTicks (origin wide) (start wide) begins (round (round [])) .cowell onX 2 (omega arith) (omega (arith, computed .points))
 
-alike : Alike wide narrow
-alike = record { points = refl; start = refl; samples = λ k. refl }
+-- whatever the tolerances and the limit are
+alike : (position velocity limit : ℕ) → Alike wide (h3 1 position velocity limit)
+alike position velocity limit = record { points = refl; start = refl; samples = λ k. refl }
 
 of-openings : OfOpenings ours
 of-openings = any-calls .openings ours (our-calls .demand3) (our-calls .counts)
 
 same : SamePoint ours settledOnce (after ours (start narrow) twice)
-same = of-openings .same wide narrow (computed .opened) (computed .narrowly) alike (round []) twice (computed .sampleWide ∙ sym (computed .sampleNarrow))
+same = of-openings .same wide narrow (computed .opened) (computed .narrowly) (alike 0 widest 2) (round []) twice (computed .sampleWide ∙ sym (computed .sampleNarrow))
+
+-- a velocity tolerance that asked for a second correction leaves it at the same point
+same-turned : SamePoint ours settledOnce (after ours (start turning) twice)
+same-turned = of-openings .same wide turning (computed .opened) (computed .turningly) (alike widest 5 2) (round []) twice (computed .sampleWide ∙ sym (computed .sampleTurning))
 
 same-next : predictOf settledOnce .answer ≡ predictOf (after ours (start narrow) twice) .answer
 same-next =
@@ -117,6 +123,26 @@ no-correction = our-calls .counts .settled (start wide) (begins .held) (round []
 
 refused-7 : (step ours closedSession predict ≡ closedSession) × (event ours closedSession predict ≡ refused7 predict)
 refused-7 = our-calls .closed closedSession closed-fails closed-not-starting predict
+
+-- H3's session with a velocity tolerance of one more than the widest
+tooWide : Session
+tooWide =
+    let s = start wide in
+    record {
+      state = s .state;
+      points = s .points;
+      tolerances = record { position = 1; velocity = 1048577 };
+      limit = s .limit;
+      accepted = s .accepted;
+      corrections = s .corrections;
+      x = s .x;
+      y = s .y;
+      z = s .z;
+    }
+
+counts-as-closed : (step ours tooWide predict ≡ tooWide) × (event ours tooWide predict ≡ refused7 predict)
+unfolding tooWide
+counts-as-closed = our-calls .badSettings tooWide (λ h. omega (arith, h .0 .1)) predict
 
 none-accepted : entries (history ours (start none) (round [])) ≡ []
 none-accepted = our-calls .unopened none (given (number-is none ∙ computed .refused) (λ e. omega arith)) (round []) .1

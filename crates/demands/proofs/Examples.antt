@@ -18,7 +18,8 @@ use Rattle.ticks.specs.declared.WholeSample.{WholeSample}
 use Rattle.ticks.specs.Round.{roundedOf}
 use Rattle.ticks.specs.Samples.{any, wholeOf}
 use Rattle.axis.specs.Formulas.{motionOf, still, presentMotion, predictedMotion, correctedMotion, keptSamples, advancedAxis, openedAxis, emptyAxis}
-use Rattle.axis.specs.Estimates.{sameMotion, inRange, changeOf, agreesOn}
+use Rattle.axis.specs.Estimates.{sameMotion, inRange}
+use Rattle.axis.specs.Agreement.{changeOf, sizes, agreesOn}
 use Rattle.axis.specs.Holding.{remaindersHold, samplesSmall, emptyZero}
 use Rattle.session.specs.declared.Session.{Session}
 use Rattle.session.specs.declared.State.{State}
@@ -31,7 +32,7 @@ use Rattle.steps.specs.declared.Prediction.{Prediction}
 use Rattle.steps.specs.declared.Opening.the-variants as O
 use Rattle.steps.specs.declared.Prediction.the-variants as P
 use Rattle.steps.specs.declared.Correction.the-variants as C
-use Rattle.steps.specs.Answers.{reportedMotion, reportedPoint, reportedChange, noPoint, noChange}
+use Rattle.steps.specs.Answers.{reportedMotion, reportedPoint, reportedChange, noPoint, noChange, correctionAnswer}
 use Rattle.steps.specs.Opening.{wholePoint, axisSamples, openedWith}
 use Rattle.steps.specs.Refusals.{openRefusal, full, predictRefusal, agrees, largestChange, isLast, correctRefusal, withdrawRefusal}
 use Rattle.steps.specs.Steps.{openOf, predictOf, correctOf, withdrawOf}
@@ -39,7 +40,7 @@ use Rattle.demands.specs.Coordinates.{onX, positionIn}
 use Rattle.demands.specs.Histories.{Request, ours, Call, predict, correct, after, history, Entry, entries, samplesOf, agains}
 use Rattle.demands.specs.ClosedForm.{openingSamples, origin, firstSum, secondBefore, positionAt, nextPosition}
 use Rattle.demands.specs.Demands.{sample, secondDifference, firstDifference}
-use Rattle.demands.specs.BadVersions.{predictingZero, repeating, inventingCorrections}
+use Rattle.demands.specs.BadVersions.{predictingZero, repeating, inventingCorrections, ignoringVelocities}
 use Rattle.demands.proofs.Opens.{refusal}
 
 -- ---- the sessions
@@ -47,29 +48,40 @@ use Rattle.demands.proofs.Opens.{refusal}
 abbrev float : ℤ → Float
 float n = ofInt binary64 n
 
--- H3's opening, with p, a tolerance and a limit
-abbrev h3 : ℕ → ℕ → ℕ → Request
-h3 p tolerance limit =
+-- H3's opening, with p, the two tolerances and a limit
+abbrev pub h3 : ℕ → ℕ → ℕ → ℕ → Request
+h3 p position velocity limit =
     record {
       points = p;
-      tolerance = tolerance;
+      tolerances = record { position = position; velocity = velocity };
       limit = limit;
       start = record { x = pos 1000; y = pos 0; z = pos 0; vx = pos 10; vy = pos 0; vz = pos 0 };
       floats = float (pos 12) ∷ float (pos 0) ∷ float (pos 0) ∷ [];
     }
 
+-- the widest tolerance
+abbrev pub widest : ℕ
+widest = 1048576
+
 -- H4, H5 and H6; and one that is refused
 abbrev pub wide : Request
-wide = h3 1 1 2
+wide = h3 1 1 widest 2
 
 abbrev pub narrow : Request
-narrow = h3 1 0 2
+narrow = h3 1 0 widest 2
 
 abbrev pub once : Request
-once = h3 1 0 1
+once = h3 1 0 widest 1
 
 abbrev pub none : Request
-none = h3 0 1 2
+none = h3 0 1 widest 2
+
+-- H4 with a velocity that may move by less than the 6 ticks that it moves by: by two corrections, and by one
+abbrev pub turning : Request
+turning = h3 1 widest 5 2
+
+abbrev pub turningOnce : Request
+turningOnce = h3 1 widest 5 1
 
 abbrev pub start : Request → Session
 start r = ours .opens r .session
@@ -127,6 +139,7 @@ pub record Computed : Type 0 where
   pub opens : refusal wide ≡ 0
   pub opened : ours .opens wide .answer ≡ O.Opened
   pub narrowly : ours .opens narrow .answer ≡ O.Opened
+  pub turningly : ours .opens turning .answer ≡ O.Opened
   pub refused : refusal none ≡ 1
   pub samples : openingSamples wide onX ≡ pos 12 ∷ []
   pub opening : origin wide .position onX ≡ pos (1000 * D)
@@ -148,11 +161,16 @@ pub record Computed : Type 0 where
   pub correctsAgain : correctRefusal (waiting narrow) a24 ≡ 0
   pub differing : agrees (waiting narrow) (correctedPoint (waiting narrow) (wholeOf a24)) ≡ false
   pub eighth : correctRefusal (waiting once) a24 ≡ 8
+  -- the velocity alone is over its tolerance: again, and 8
+  pub turnsAgain : correctRefusal (waiting turning) a24 ≡ 0
+  pub turned : agrees (waiting turning) (correctedPoint (waiting turning) (wholeOf a24)) ≡ false
+  pub turnedLast : correctRefusal (waiting turningOnce) a24 ≡ 8
   pub oneAgain : agains 0 (history ours (start narrow) (round [])) ≡ 1
   pub stillAwaiting : after ours (start narrow) (round []) .state ≡ Awaiting
-  -- H4 and H5 accept the same sample
+  -- H4, H5 and H4 with the lesser velocity tolerance accept the same sample
   pub sampleWide : samplesOf (entries (history ours (start wide) (round []))) ≡ whole24 ∷ []
   pub sampleNarrow : samplesOf (entries (history ours (start narrow) twice)) ≡ whole24 ∷ []
+  pub sampleTurning : samplesOf (entries (history ours (start turning) twice)) ≡ whole24 ∷ []
   pub settledWide : settled settledOnce ≡ true
   pub settledNarrow : settled (after ours (start narrow) twice) ≡ true
   -- H7: two points, 1057 - 2034 + 1000 = 23 and 28 - 10 = 18
@@ -172,16 +190,19 @@ pub record Computed : Type 0 where
   pub repeatedTold : repeating .corrects repeatingWaits a24 .answer ≡ C.Accepted (reportedPoint (presentPoint repeatingWaits))
   pub repeatedPosition : positionIn onX (reportedPoint (presentPoint repeatingWaits)) ≡ pos (1017 * D)
   pub truePosition : positionAt (origin wide) onX (wholeOf a24 ∷ samplesOf (entries (history repeating (start wide) (predict ∷ round [])))) ≡ pos (1057 * D)
+  pub ignored : correctionAnswer (ignoringVelocities .corrects (waiting turning) a24 .answer) .kind ≡ 1
+  pub ignoredLast : correctionAnswer (ignoringVelocities .corrects (waiting turningOnce) a24 .answer) .number ≡ 0
   pub invents : after inventingCorrections (start wide) (predict ∷ []) .state ≡ Awaiting
   pub noAgains : agains (start wide .corrections) (history inventingCorrections (start wide) (predict ∷ [])) ≡ 0
 
 pub computed : Computed
-unfolding add div ofInt firstOf byDifferences exactOf numerator sameExact times c g l s total terms next divided run positionPredictor positionCorrector velocityPredictor velocityCorrector unsummedCowell adamsMoulton roundedOf any motionOf still presentMotion predictedMotion correctedMotion keptSamples advancedAxis openedAxis emptyAxis sameMotion inRange changeOf agreesOn remaindersHold samplesSmall emptyZero pointsHold settingsHold nowhere presentPoint estimateOf predictedPoint correctedPoint pointInRange pointsAgree pointChange settledAgain awaitingAt acceptedAt openedSession closedSession countsHold samePoint settledHolds estimateBegins awaitingHolds holds settled awaiting reportedMotion reportedPoint reportedChange noPoint noChange wholePoint axisSamples openedWith openRefusal full predictRefusal agrees largestChange isLast correctRefusal withdrawRefusal openOf predictOf correctOf withdrawOf firstSum secondBefore positionAt nextPosition
+unfolding add div ofInt firstOf byDifferences exactOf numerator sameExact times c g l s total terms next divided run positionPredictor positionCorrector velocityPredictor velocityCorrector unsummedCowell adamsMoulton roundedOf any motionOf still presentMotion predictedMotion correctedMotion keptSamples advancedAxis openedAxis emptyAxis sameMotion inRange changeOf sizes agreesOn remaindersHold samplesSmall emptyZero pointsHold settingsHold nowhere presentPoint estimateOf predictedPoint correctedPoint pointInRange pointsAgree pointChange settledAgain awaitingAt acceptedAt openedSession closedSession countsHold samePoint settledHolds estimateBegins awaitingHolds holds settled awaiting reportedMotion reportedPoint reportedChange noPoint noChange wholePoint axisSamples openedWith openRefusal full predictRefusal agrees largestChange isLast correctRefusal withdrawRefusal openOf predictOf correctOf withdrawOf firstSum secondBefore positionAt nextPosition
 computed =
     record {
       opens = refl;
       opened = refl;
       narrowly = refl;
+      turningly = refl;
       refused = refl;
       samples = refl;
       opening = refl;
@@ -201,10 +222,14 @@ computed =
       correctsAgain = refl;
       differing = refl;
       eighth = refl;
+      turnsAgain = refl;
+      turned = refl;
+      turnedLast = refl;
       oneAgain = refl;
       stillAwaiting = refl;
       sampleWide = refl;
       sampleNarrow = refl;
+      sampleTurning = refl;
       settledWide = refl;
       settledNarrow = refl;
       points = refl;
@@ -222,6 +247,8 @@ computed =
       repeatedTold = refl;
       repeatedPosition = refl;
       truePosition = refl;
+      ignored = refl;
+      ignoredLast = refl;
       invents = refl;
       noAgains = refl;
     }

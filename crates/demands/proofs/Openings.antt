@@ -3,18 +3,24 @@
 use mathlib.Core.Path.{_≡_, refl, sym, ap, _∙_, subst}
 use mathlib.Core.Bool.{true, false}
 use mathlib.Core.List.{List, [], _∷_, _++_, map}
-use Prim.Native.Nat.{_+_}
+use Prim.Native.Nat.{_+_, _≤_}
 use native.Mathlib.Nat.{zero-add}
 use lib.Ieee.{Float}
 use lib.ListN.{length}
+use Rattle.integers.specs.Tests.{fails}
+use Rattle.axis.specs.Ready.{Tolerable}
 use Rattle.session.specs.declared.Session.{Session}
 use Rattle.session.specs.Moves.{closedSession}
 use Rattle.session.specs.Holding.{holds}
+use Rattle.session.proofs.Rules.{settings-hold, holding, counts-are}
+use Rattle.session.proofs.Rules as S
 use Rattle.session.proofs.Kept.{closed-fails}
 use Rattle.steps.specs.Answers.{NotZero}
 use Rattle.steps.specs.Opening.{wholePoint}
 use Rattle.starting.specs.Records.{starting}
+use Rattle.starting.proofs.Rules.{keeps-rules}
 use Rattle.demands.specs.Histories.{Request, Implementation, ours, Call, predict, correct, withdraw, refine, Event, step, event, after, history, Act, opening, firstRound, calling, lived, entries, agains}
+use Rattle.demands.specs.Refusals.{Settings}
 use Rattle.demands.specs.ClosedForm.{Begins, originAt, origin, startOrigin}
 use Rattle.demands.specs.Demands.{openNumber, startNumber, Demand3, Counts}
 use Rattle.demands.specs.Theorems.{Alike, OfOpenings, OfStarts, refused7, Plain}
@@ -81,6 +87,16 @@ closed s h f predict = unopen s h predict tt
 closed s h f (correct a) = unopen s h (correct a) tt
 closed s h f withdraw = unopen s h withdraw tt
 closed s h f (refine floats) = unstarting s f floats
+
+-- an open record and a starting one keep the numbers of the settings
+pub bad-settings : (s : Session) → ¬ Settings (s .tolerances) (s .limit) → (call : Call) → (step ours s call ≡ s) × (event ours s call ≡ refused7 call)
+bad-settings s n = closed s (fails (holds s) (λ t. n (kept (counts-are s (holding s t .rules .counts))))) (fails (starting s) (λ t. n (begun (settings-hold (s .tolerances) (s .limit) .0 (keeps-rules s t .settings)))))
+  where
+    begun : Tolerable (s .tolerances) × ((1 ≤ s .limit) × (s .limit ≤ 8)) → Settings (s .tolerances) (s .limit)
+    begun (t, l) = ((t .position, t .velocity), l)
+
+    kept : S.Counts s → Settings (s .tolerances) (s .limit)
+    kept c = begun (c .tolerances, c .limit)
 
 module _ (s : Session) (h : holds s ≡ false) (f : starting s ≡ false) where
   stays : (calls : List Call) → after ours s calls ≡ s

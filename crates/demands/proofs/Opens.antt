@@ -26,14 +26,14 @@ use Rattle.demands.specs.ClosedForm.{Begins, place, openingSamples, orig
 
 module _ (r : Request) where
   abbrev pub refusal : ℕ
-  refusal = openRefusal (r .points) (r .tolerance) (r .limit) (r .start) (r .floats)
+  refusal = openRefusal (r .points) (r .tolerances) (r .limit) (r .start) (r .floats)
 
   abbrev session : Session
-  session = openedWith (r .points) (r .tolerance) (r .limit) (wholePoint (r .start)) (r .floats)
+  session = openedWith (r .points) (r .tolerances) (r .limit) (wholePoint (r .start)) (r .floats)
 
   -- the answer's number is the refusal's
   pub number-is : openingAnswer (ours .opens r .answer) .number ≡ refusal
-  number-is = ap (λ a. a .number) (open-answers (r .points) (r .tolerance) (r .limit) (r .start) (r .floats))
+  number-is = ap (λ a. a .number) (open-answers (r .points) (r .tolerances) (r .limit) (r .start) (r .floats))
 
   module _ (e : ours .opens r .answer ≡ O.Opened) where
     not-refused : refusal ≡ 0
@@ -41,13 +41,13 @@ module _ (r : Request) where
 
     opened : ours .opens r .session ≡ session
     unfolding openOf
-    opened = ap (λ n. openBy n (r .points) (r .tolerance) (r .limit) (r .start) (r .floats) .session) not-refused
+    opened = ap (λ n. openBy n (r .points) (r .tolerances) (r .limit) (r .start) (r .floats) .session) not-refused
 
     present : presentPoint (ours .opens r .session) ≡ wholePoint (r .start)
     unfolding openedWith
     present =
         ap presentPoint opened
-        ∙ present-opened (r .points) (r .tolerance) (r .limit) (wholePoint (r .start)) _ _ _ (start-placed (r .start) (open-0 (r .points) (r .tolerance) (r .limit) (r .start) (r .floats) .0 not-refused .range))
+        ∙ present-opened (r .points) (r .tolerances) (r .limit) (wholePoint (r .start)) _ _ _ (start-placed (r .start) (open-0 (r .points) (r .tolerances) (r .limit) (r .start) (r .floats) .0 not-refused .range))
 
     samples-are : (k : Coordinate) → axisOf k session .samples ≡ places (r .points) (openingSamples r k)
     unfolding openedWith openedSession openedAxis
@@ -59,7 +59,7 @@ module _ (r : Request) where
     unfolding openedWith openedSession
     open-begins =
         record {
-          held = settled-holds (ours .opens r .session) (open-settles (r .points) (r .tolerance) (r .limit) (r .start) (r .floats) not-refused);
+          held = settled-holds (ours .opens r .session) (open-settles (r .points) (r .tolerances) (r .limit) (r .start) (r .floats) not-refused);
           points = ap (λ s. s .points) opened;
           position = λ k. ap (positionOf k) present;
           velocity = λ k. ap (velocityOf k) present;

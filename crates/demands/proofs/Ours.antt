@@ -48,7 +48,7 @@ blank-start : (r : Request) → NotZero (start-refusal r) → ours .starts r .an
 unfolding startOf
 blank-start r = go (start-refusal r)
   where
-    go : (n : ℕ) → NotZero n → startBy n (r .tolerance) (r .limit) (wholePoint (r .start)) (givenRound (r .points) (wholePoint (r .start)) (r .floats)) .answer .points ≡ noPoints
+    go : (n : ℕ) → NotZero n → startBy n (r .tolerances) (r .limit) (wholePoint (r .start)) (givenRound (r .points) (wholePoint (r .start)) (r .floats)) .answer .points ≡ noPoints
     go zero f = absurd (f refl)
     go (suc n) f = refl
 
@@ -67,14 +67,14 @@ demand1 =
       predicts = λ s. subst (Exactly (predictTable s)) (sym (predict-number s)) (predict-table s);
       corrects = λ s a. subst (Exactly (correctTable s a)) (sym (correct-number s a)) (correct-table s a);
       withdraws = λ s. subst (Exactly (withdrawTable s)) (sym (withdraw-number s)) (withdraw-table s);
-      closed = λ r f. open-closes (r .points) (r .tolerance) (r .limit) (r .start) (r .floats) (λ e. f (number-is r ∙ e));
+      closed = λ r f. open-closes (r .points) (r .tolerances) (r .limit) (r .start) (r .floats) (λ e. f (number-is r ∙ e));
       unpredicted = λ s f. predict-untouched s (λ e. f (predict-number s ∙ e));
       settled = λ s a e. correct-ends s a (sym (correct-number s a) ∙ e);
       uncorrected = λ s a f g. correct-untouched s a (λ e. f (correct-number s a ∙ e)) (λ e. g (correct-number s a ∙ e));
       unwithdrawn = λ s f. withdraw-untouched s (λ e. f (withdraw-number s ∙ e));
       starts = λ r. subst (First (startTable r)) (sym (start-number r)) (start-table r);
       refines = λ s floats. subst (Exactly (refineTable s floats)) (sym (refine-number s floats)) (refine-table s floats);
-      unstarted = λ r f. start-closes (r .points) (r .tolerance) (r .limit) (r .start) (r .floats) (λ e. f (start-number r ∙ e));
+      unstarted = λ r f. start-closes (r .points) (r .tolerances) (r .limit) (r .start) (r .floats) (λ e. f (start-number r ∙ e));
       ended = λ s floats e. refine-closes s floats (sym (refine-number s floats) ∙ e);
       unrefined = λ s floats f g. refine-untouched s floats (λ e. f (refine-number s floats ∙ e)) (λ e. g (refine-number s floats ∙ e));
       blankStart = λ r f. blank-start r (λ e. f (start-number r ∙ e));
@@ -102,7 +102,7 @@ judge : (s : Session) (a : Sample) (b : Bool) → Unrefused (correctTable s a) �
 unfolding correctOf
 judge s a b u f = ap (λ n. correctBy n s (wholeOf a)) (unrefused-correct s a u) ∙ ap (λ t. judged t s (wholeOf a) (correctedPoint s (wholeOf a))) f
 
-judge-round : (s : Session) (floats : List Float) (b : Bool) → Unrefused (refineTable s floats) → roundsAgree (s .tolerance) (laterRound s floats) (heldRound s) ≡ b → refineOf s floats ≡ judgedRound b s (laterRound s floats)
+judge-round : (s : Session) (floats : List Float) (b : Bool) → Unrefused (refineTable s floats) → roundsAgree (s .tolerances) (laterRound s floats) (heldRound s) ≡ b → refineOf s floats ≡ judgedRound b s (laterRound s floats)
 unfolding refineOf
 judge-round s floats b u f = ap (λ n. refineBy n s (laterRound s floats)) (unrefused-refine s floats u) ∙ ap (λ t. judgedRound t s (laterRound s floats)) f
 
@@ -110,12 +110,12 @@ pub demand2 : Demand2 ours
 unfolding openOf predictOf withdrawOf startOf
 demand2 =
     record {
-      opens = λ r u. ap (λ n. openBy n (r .points) (r .tolerance) (r .limit) (r .start) (r .floats)) (unrefused-open r u);
+      opens = λ r u. ap (λ n. openBy n (r .points) (r .tolerances) (r .limit) (r .start) (r .floats)) (unrefused-open r u);
       predicts = λ s u. ap (λ n. predictBy n s) (unrefused-predict s u);
       accepts = λ s a u w. judge s a true u (agreement s (correctedPoint s (wholeOf a)) .yes .1 w);
       repeats = λ s a u w. judge s a false u (agreement s (correctedPoint s (wholeOf a)) .no .1 w);
       withdraws = λ s u. ap (λ n. withdrawBy n s) (unrefused-withdraw s u);
-      starts = λ r u. ap (λ n. startBy n (r .tolerance) (r .limit) (wholePoint (r .start)) (givenRound (r .points) (wholePoint (r .start)) (r .floats))) (start-none r .1 u);
+      starts = λ r u. ap (λ n. startBy n (r .tolerances) (r .limit) (wholePoint (r .start)) (givenRound (r .points) (wholePoint (r .start)) (r .floats))) (start-none r .1 u);
       opensRound = λ s floats u w. judge-round s floats true u (round-agreement s floats .yes .1 w);
       asksMore = λ s floats u w. judge-round s floats false u (round-agreement s floats .no .1 w);
     }
@@ -142,7 +142,7 @@ counts =
 pub leave : Leaves ours
 leave =
     record {
-      opens = λ r. open-leaves (r .points) (r .tolerance) (r .limit) (r .start) (r .floats);
+      opens = λ r. open-leaves (r .points) (r .tolerances) (r .limit) (r .start) (r .floats);
       starts = first-leaves;
       steps = leaves;
       held = holds-after;

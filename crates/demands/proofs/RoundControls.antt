@@ -18,7 +18,7 @@ use Rattle.rounds.specs.Answers.{noPoints}
 use Rattle.rounds.specs.Refusals.{laterRound}
 use Rattle.rounds.specs.Steps.{refineOf}
 use Rattle.rounds.proofs.Left.{start-begins}
-use Rattle.demands.specs.Coordinates.{positionOf}
+use Rattle.demands.specs.Coordinates.{positionOf, velocityOf}
 use Rattle.demands.specs.Histories.{ours, predict, refine, step, event, after, history, entries}
 use Rattle.demands.specs.Refusals.{Unrefused, RoundWithin, refineTable}
 use Rattle.demands.specs.ClosedForm.{originAt, place, openingSamples, origin, startOrigin}
@@ -61,8 +61,12 @@ nothing : (a : ℤ) (n : ℕ) → natAbs (a -ℤ a) ≤ n
 nothing a n = rw (parts a) (simp differences (omega integers))
 
 opens : Unrefused (refineTable begun (force (pos 12))) × RoundWithin begun (laterRound begun (force (pos 12)))
-opens =
-    (unrefused-same, subst (RoundWithin begun) (sym (computed .sameRound)) (λ j l k. nothing (positionOf k (earlierPoint (heldRound begun) j)) (begun .tolerance * D)))
+opens = (
+  unrefused-same,
+  subst (RoundWithin begun) (sym (computed .sameRound)) (λ j l k.
+      let q = earlierPoint (heldRound begun) j in
+      (nothing (positionOf k q) (begun .tolerances .position * D), nothing (velocityOf k q) (begun .tolerances .velocity * D))),
+)
 
 asks-more : Unrefused (refineTable begun (force (pos 24))) × (¬ RoundWithin begun (laterRound begun (force (pos 24))))
 asks-more = (unrefused-other, not-within)
@@ -96,7 +100,7 @@ one-round = our-calls .counts .rounds first (start-number first ∙ computed .un
 -- ---- a starting record, an open one, and a first round that was refused
 
 begins : starting begun ≡ true
-begins = start-begins (first .points) (first .tolerance) (first .limit) (first .start) (first .floats) (computed .unrefused)
+begins = start-begins (first .points) (first .tolerances) (first .limit) (first .start) (first .floats) (computed .unrefused)
 
 waits : (step ours begun predict ≡ begun) × (event ours begun predict ≡ refused7 predict)
 waits = our-calls .waits begun begins predict tt

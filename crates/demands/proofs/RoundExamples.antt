@@ -1,6 +1,6 @@
 -- A start with p 3: epoch 1000 with velocity 10, samples of 12, and then samples of 12 or of 24; and what the definitions compute there.
 use mathlib.Core.Path.{_≡_, refl}
-use mathlib.Core.Bool.{true}
+use mathlib.Core.Bool.{true, false}
 use mathlib.Core.List.{List, [], _∷_}
 use Prim.Native.Nat.{ℕ, _*_}
 use lib.IntN.{ℤ, pos, natAbs, _-ℤ_}
@@ -16,7 +16,9 @@ use Rattle.ticks.specs.Round.{roundedOf}
 use Rattle.ticks.specs.Samples.{any}
 use Rattle.earlier.specs.Formulas.{lessBefore, cut, earlierPosition, earlierVelocity, hasCentre}
 use Rattle.axis.specs.Formulas.{motionOf, still, presentMotion, predictedMotion}
-use Rattle.axis.specs.Estimates.{sameMotion, inRange, changeOf, agreesOn}
+use Rattle.axis.specs.declared.Tolerances.{Tolerances}
+use Rattle.axis.specs.Estimates.{sameMotion, inRange}
+use Rattle.axis.specs.Agreement.{changeOf, sizes, agreesOn}
 use Rattle.axis.specs.Holding.{remaindersHold, samplesSmall, emptyZero, placesHold}
 use Rattle.epochs.specs.Formulas.{nextSums, backSums, runOn, runBack, newestSums, earlierMotion, centreSums, startedAxis}
 use Rattle.session.specs.declared.Session.{Session}
@@ -39,7 +41,7 @@ use Rattle.rounds.specs.Refusals.{givenRound, startRefusal, laterRound, refineR
 use Rattle.rounds.specs.Steps.{startOf, refineOf}
 use Rattle.demands.specs.Coordinates.{onX, positionOf}
 use Rattle.demands.specs.Histories.{Request, ours, Call, predict, refine, after, history, agains, mores}
-use Rattle.demands.specs.BadVersions.{openingAtOnce, openingAnyhow, neverCounting}
+use Rattle.demands.specs.BadVersions.{openingAtOnce, openingAnyhow, neverCounting, ignoringVelocitiesOfRounds}
 use Rattle.demands.proofs.Examples.{stateNumber}
 use Rattle.demands.proofs.TablesOfRounds.{start-refusal}
 
@@ -52,21 +54,25 @@ float n = ofInt binary64 n
 abbrev pub force : ℤ → List Float
 force n = float n ∷ float (pos 0) ∷ float (pos 0) ∷ float n ∷ float (pos 0) ∷ float (pos 0) ∷ float n ∷ float (pos 0) ∷ float (pos 0) ∷ []
 
--- a request with p, from a position and a velocity on x
-abbrev request : ℕ → ℤ → ℤ → Request
-request p x v =
-    record { points = p; tolerance = 0; limit = 2; start = record { x = x; y = pos 0; z = pos 0; vx = v; vy = pos 0; vz = pos 0 }; floats = force (pos 12) }
+-- a request with p and two tolerances, from a position and a velocity on x
+abbrev request : ℕ → Tolerances → ℤ → ℤ → Request
+request p tolerances x v =
+    record { points = p; tolerances = tolerances; limit = 2; start = record { x = x; y = pos 0; z = pos 0; vx = v; vy = pos 0; vz = pos 0 }; floats = force (pos 12) }
+
+-- no position may move, and a velocity as far as any
+abbrev pub strict : Tolerances
+strict = record { position = 0; velocity = 1048576 }
 
 abbrev pub first : Request
-first = request 3 (pos 1000) (pos 10)
+first = request 3 strict (pos 1000) (pos 10)
 
 -- an even p
 abbrev pub even : Request
-even = request 2 (pos 1000) (pos 10)
+even = request 2 strict (pos 1000) (pos 10)
 
 -- what `open` is given at the point one step after the epoch, 1000 + 10 + 6 with velocity 10 + 12
 abbrev pub newest : Request
-newest = request 3 (pos 1016) (pos 22)
+newest = request 3 strict (pos 1016) (pos 22)
 
 -- after the first round, and after a later one that moved
 abbrev pub begun : Session
@@ -77,6 +83,10 @@ moved = refine (force (pos 24)) ∷ []
 
 abbrev pub again : Session
 again = after ours begun moved
+
+-- the other way round: the velocities of the outer points move by 12 ticks and may by 11
+abbrev pub turning : Session
+turning = ours .starts (request 3 (record { position = 1048576; velocity = 11 }) (pos 1000) (pos 10)) .session
 
 -- ---- what the definitions compute there
 
@@ -102,7 +112,7 @@ pub record Computed : Type 0 where
   pub opened : ours .opens newest .answer ≡ O.Opened
   pub point0 : earlierPoint (laterRound begun (force (pos 12))) 0 ≡ wholePoint (newest .start)
   pub points : begun .points ≡ 3
-  pub tolerance : begun .tolerance ≡ 0
+  pub tolerances : begun .tolerances ≡ strict
   -- and predicts there
   pub awaits : after ours (refineOf begun (force (pos 12)) .session) (predict ∷ []) .state ≡ Awaiting
   pub noAgains : agains 0 (history ours (refineOf begun (force (pos 12)) .session) (predict ∷ [])) ≡ 0
@@ -112,13 +122,16 @@ pub record Computed : Type 0 where
   pub atOnce : openingAtOnce .starts first .answer .outcome ≡ R.Opened
   pub atOnceState : stateNumber (openingAtOnce .starts first .session .state) ≡ 1
   pub anyhow : openingAnyhow .refines begun (force (pos 24)) .answer .outcome ≡ R.Opened
+  pub turnsMore : refineRefusal turning (force (pos 24)) ≡ 0
+  pub turned : roundsAgree (turning .tolerances) (laterRound turning (force (pos 24))) (heldRound turning) ≡ false
+  pub ignored : ignoringVelocitiesOfRounds .refines turning (force (pos 24)) .answer .outcome ≡ R.Opened
   pub closedState : stateNumber (closedSession .state) ≡ 0
   pub stillStarting : starting (after neverCounting begun moved) ≡ true
   pub notCounted : after neverCounting begun moved .corrections ≡ 0
   pub countedOnce : mores 0 (history neverCounting begun moved) ≡ 1
 
 pub computed : Computed
-unfolding add div ofInt firstOf byDifferences exactOf numerator sameExact times c g l s total terms next divided run positionCorrector velocityCorrector roundedOf any motionOf still inRange changeOf agreesOn samplesSmall emptyZero placesHold pointsHold settingsHold nowhere estimateOf pointInRange pointsAgree pointChange closedSession reportedMotion reportedPoint reportedChange noPoint noChange wholePoint axisSamples openRefusal openOf isLast full predictRefusal predictOf predictedPoint presentPoint predictedMotion presentMotion positionPredictor velocityPredictor awaitingAt sameMotion samePoint remaindersHold countsHold settledHolds holds settled lessBefore cut earlierPosition earlierVelocity hasCentre nextSums backSums runOn runBack newestSums earlierMotion centreSums startedAxis heldRound sumsZero epochHolds axisStarts axesStart startHolds starting startingAxis startingSession openedRound roundOf earlierPoint everyBelow largestBelow roundInRange roundsAgree largestMove pointsFrom roundPoints noPoints givenRound startRefusal laterRound refineRefusal startOf refineOf
+unfolding add div ofInt firstOf byDifferences exactOf numerator sameExact times c g l s total terms next divided run positionCorrector velocityCorrector roundedOf any motionOf still inRange changeOf sizes agreesOn samplesSmall emptyZero placesHold pointsHold settingsHold nowhere estimateOf pointInRange pointsAgree pointChange closedSession reportedMotion reportedPoint reportedChange noPoint noChange wholePoint axisSamples openRefusal openOf isLast full predictRefusal predictOf predictedPoint presentPoint predictedMotion presentMotion positionPredictor velocityPredictor awaitingAt sameMotion samePoint remaindersHold countsHold settledHolds holds settled lessBefore cut earlierPosition earlierVelocity hasCentre nextSums backSums runOn runBack newestSums earlierMotion centreSums startedAxis heldRound sumsZero epochHolds axisStarts axesStart startHolds starting startingAxis startingSession openedRound roundOf earlierPoint everyBelow largestBelow roundInRange roundsAgree largestMove pointsFrom roundPoints noPoints givenRound startRefusal laterRound refineRefusal startOf refineOf
 computed =
     record {
       unrefused = refl;
@@ -135,13 +148,16 @@ computed =
       opened = refl;
       point0 = refl;
       points = refl;
-      tolerance = refl;
+      tolerances = refl;
       awaits = refl;
       noAgains = refl;
       far = refl;
       atOnce = refl;
       atOnceState = refl;
       anyhow = refl;
+      turnsMore = refl;
+      turned = refl;
+      ignored = refl;
       closedState = refl;
       stillStarting = refl;
       notCounted = refl;

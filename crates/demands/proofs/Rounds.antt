@@ -118,7 +118,7 @@ module _ (s : Session) (n : ℕ) where
       ended true = inr closed-not-starting
       ended false = inl (t, c)
 
-      judge : (b : Bool) → refineRefusal s floats ≡ 0 → roundsAgree (s .tolerance) (laterRound s floats) (heldRound s) ≡ b →
+      judge : (b : Bool) → refineRefusal s floats ≡ 0 → roundsAgree (s .tolerances) (laterRound s floats) (heldRound s) ≡ b →
           Counting (judgedRound b s (laterRound s floats) .session) (countedRound (judgedRound b s (laterRound s floats) .answer .outcome) n)
       judge true e f = inr (not-starting _ (ap holds (sym (refine-opened s floats e f)) ∙ settled-holds _ (refine-settles s floats e f)))
       judge false e f =
@@ -128,7 +128,7 @@ module _ (s : Session) (n : ℕ) where
           )
 
       go : (m : ℕ) → refineRefusal s floats ≡ m → Counting (refineBy m s (laterRound s floats) .session) (countedRound (refineBy m s (laterRound s floats) .answer .outcome) n)
-      go zero e = judge (roundsAgree (s .tolerance) (laterRound s floats) (heldRound s)) e refl
+      go zero e = judge (roundsAgree (s .tolerances) (laterRound s floats) (heldRound s)) e refl
       go (suc m) e = ended (eqb (suc m) 8)
 
   -- a call that is no round leaves a starting record, and makes no other starting
@@ -150,22 +150,22 @@ one-more s es (inr f) (refine floats) = inr (ap (λ r. starting (r .session)) (u
 module _ (r : Request) where
   -- the answer's number is the refusal's
   pub start-number : startNumber ours r ≡ start-refusal r
-  start-number = ap (λ a. a .number) (start-answers (r .points) (r .tolerance) (r .limit) (r .start) (r .floats))
+  start-number = ap (λ a. a .number) (start-answers (r .points) (r .tolerances) (r .limit) (r .start) (r .floats))
 
   pub first-closes : NotZero (startNumber ours r) → ours .starts r .session ≡ closedSession
-  first-closes f = start-closes (r .points) (r .tolerance) (r .limit) (r .start) (r .floats) (λ e. f (start-number ∙ e))
+  first-closes f = start-closes (r .points) (r .tolerances) (r .limit) (r .start) (r .floats) (λ e. f (start-number ∙ e))
 
   pub first-leaves : (ours .starts r .session ≡ closedSession) ⊎ (starting (ours .starts r .session) ≡ true)
-  first-leaves = start-leaves (r .points) (r .tolerance) (r .limit) (r .start) (r .floats)
+  first-leaves = start-leaves (r .points) (r .tolerances) (r .limit) (r .start) (r .floats)
 
   begins-at-0 : start-refusal r ≡ 0 → ours .starts r .session .corrections ≡ 0
   unfolding startOf startingSession
-  begins-at-0 e = ap (λ n. startBy n (r .tolerance) (r .limit) (wholePoint (r .start)) (givenRound (r .points) (wholePoint (r .start)) (r .floats)) .session .corrections) e
+  begins-at-0 e = ap (λ n. startBy n (r .tolerances) (r .limit) (wholePoint (r .start)) (givenRound (r .points) (wholePoint (r .start)) (r .floats)) .session .corrections) e
 
   counts-on : startNumber ours r ≡ 0 → (calls : List Call) → Counting (after ours (ours .starts r .session) calls) (mores 0 (history ours (ours .starts r .session) calls))
   counts-on e [] =
       let z = sym start-number ∙ e in
-      inl (start-begins (r .points) (r .tolerance) (r .limit) (r .start) (r .floats) z, begins-at-0 z)
+      inl (start-begins (r .points) (r .tolerances) (r .limit) (r .start) (r .floats) z, begins-at-0 z)
   counts-on e (call ∷ calls) = one-more (after ours (ours .starts r .session) calls) (history ours (ours .starts r .session) calls) (counts-on e calls) call
 
   pub rounds-counted : startNumber ours r ≡ 0 → (calls : List Call) → starting (after ours (ours .starts r .session) calls) ≡ true →

@@ -11,12 +11,12 @@ use Rattle.rounds.proofs.Opened.{later-points}
 use Rattle.demands.specs.Coordinates.{onX}
 use Rattle.demands.specs.Refusals.{Unrefused, RoundWithin, startTable, refineTable}
 use Rattle.demands.specs.Demands.{Demand2, Counts, Leaves}
-use Rattle.demands.specs.BadVersions.{openingAtOnce, openingAnyhow, neverCounting}
-use Rattle.demands.proofs.TablesOfRounds.{start-none}
+use Rattle.demands.specs.BadVersions.{openingAtOnce, openingAnyhow, neverCounting, ignoringVelocitiesOfRounds}
+use Rattle.demands.proofs.TablesOfRounds.{start-none, refine-table, round-agreement}
 use Rattle.demands.proofs.Rounds.{start-number, refine-number}
 use Rattle.demands.proofs.Ours.{demand1}
 use Rattle.demands.proofs.Examples.{stateNumber}
-use Rattle.demands.proofs.RoundExamples.{force, first, begun, moved, kind, computed}
+use Rattle.demands.proofs.RoundExamples.{force, first, begun, moved, turning, kind, computed}
 
 -- ---- no rule refuses the first round, nor a later one
 
@@ -33,11 +33,11 @@ unrefused-other =
     let (_, (_, (_, (_, (_, (_, none)))))) = demand1 .refines begun (force (pos 24)) in
     none .0 (refine-number begun (force (pos 24)) ∙ computed .unrefusedOther)
 
--- the newest point moved by 6 ticks, and the tolerance is 0
+-- the newest position moved by 6 ticks, and its tolerance is 0
 pub not-within : ¬ RoundWithin begun (laterRound begun (force (pos 24)))
 not-within w =
     let n : 0 < laterRound begun (force (pos 24)) .points = subst (λ n. 0 < n) (sym (later-points begun (force (pos 24)) ∙ computed .points)) (omega arith) in
-    let h : 6 * D ≤ 0 * D = subst (λ t. 6 * D ≤ t * D) (computed .tolerance) (subst (λ n. n ≤ begun .tolerance * D) (computed .far) (w 0 n onX)) in
+    let h : 6 * D ≤ 0 * D = subst (λ t. 6 * D ≤ t .position * D) (computed .tolerances) (subst (λ n. n ≤ begun .tolerances .position * D) (computed .far) (w 0 n onX .0)) in
     absurd (omega (arith, h))
 
 -- ---- opens at its first round, which must ask for more and leave a starting record
@@ -55,6 +55,14 @@ openingAtOnceLeaves d =
 
 pub openingAnyhow2 : ¬ Demand2 openingAnyhow
 openingAnyhow2 d = omega (arith, sym (ap kind (computed .anyhow)) ∙ ap (λ a. kind (a .answer .outcome)) (d .asksMore begun (force (pos 24)) unrefused-other not-within))
+
+-- ---- looks at positions alone, also where a velocity moved
+
+pub ignoringVelocitiesOfRounds2 : ¬ Demand2 ignoringVelocitiesOfRounds
+ignoringVelocitiesOfRounds2 d =
+    let (_, (_, (_, (_, (_, (_, none)))))) = refine-table turning (force (pos 24)) in
+    let more = d .asksMore turning (force (pos 24)) (none .0 (computed .turnsMore)) (round-agreement turning (force (pos 24)) .no .0 (computed .turned)) in
+    omega (arith, sym (ap kind (computed .ignored)) ∙ ap (λ a. kind (a .answer .outcome)) more)
 
 -- ---- counts no round: one asked for more, and the record counts none
 

@@ -12,7 +12,7 @@ use lib.Ieee.Nearest.{closest}
 use lib.IntN.{natAbs, _-ℤ_}
 use lib.ListN.{length}
 use Rattle.integers.specs.Tests.{_and_, joined, not-true-iff, none-passes, clash, passes, fails}
-use Rattle.exact.specs.Numerator.{D}
+use Rattle.exact.specs.Numerator.{D, numerator}
 use Rattle.ticks.specs.declared.Rounded.{Rounded}
 use Rattle.ticks.specs.declared.Rounded.the-variants as R
 use Rattle.ticks.specs.declared.Sample.{Sample}
@@ -20,7 +20,10 @@ use Rattle.ticks.specs.Round.{limit, signed, roundedOf, isNotANumber, isInfinit
 use Rattle.ticks.specs.Samples.{any, axesOf, wholeOf}
 use Rattle.axis.proofs.Sound.{placed-in-range}
 use Rattle.axis.proofs.Agreement.{agrees-iff}
-use Rattle.axis.specs.Estimates.{changeOf}
+use Rattle.axis.specs.declared.Motion.{Motion}
+use Rattle.axis.specs.declared.Tolerances.{Tolerances}
+use Rattle.axis.specs.Agreement.{Kind, ofPosition, ofVelocity, valueOf, toleranceOf, apartBy, changeOf, agreesOn}
+use Rattle.axis.specs.Ready.{Tolerable}
 use Rattle.session.specs.declared.Point.{Point}
 use Rattle.session.specs.declared.Session.{Session}
 use Rattle.session.specs.Numbers.{pointsHold, settingsHold, mostPoints}
@@ -34,9 +37,9 @@ use Rattle.steps.specs.Opening.{wholePoint}
 use Rattle.steps.specs.Refusals.{openRules, openRefusal, full, predictRules, predictRefusal, agrees, isLast, correctRules, correctRefusal, withdrawRefusal}
 use Rattle.steps.proofs.Given.{start-placed}
 use Rattle.steps.proofs.Refusals.{open-1, open-2, open-3, open-4, open-5, open-6, predict-6, predict-7, predict-9, correct-4, correct-5, correct-6, correct-7, correct-8, withdraw-0, withdraw-7}
-use Rattle.demands.specs.Coordinates.{Coordinate, onX, onY, onZ, positionOf}
+use Rattle.demands.specs.Coordinates.{Coordinate, onX, onY, onZ}
 use Rattle.demands.specs.Histories.{Request}
-use Rattle.demands.specs.Refusals.{Exactly, Some, NotFinite, TooLarge, Within, Last, openTable, predictTable, correctTable, withdrawTable}
+use Rattle.demands.specs.Refusals.{Exactly, Some, NotFinite, TooLarge, Settings, Near, Within, Last, openTable, predictTable, correctTable, withdrawTable}
 
 -- ---- a test decides a condition
 
@@ -122,31 +125,35 @@ large = any-decides isTooLarge TooLarge too-large
 pub range : (q : Point) → (pointInRange q ≡ true → PlacedPoint q) → Decides (pointInRange q) (PlacedPoint q)
 range q f = decides (f, (λ h. axes-in-range q .1 (placed-in-range (q .x) (h .on-x), (placed-in-range (q .y) (h .on-y), placed-in-range (q .z) (h .on-z)))))
 
--- on each axis the change is at most the tolerance
-abbrev pub Near : ℕ → Point → Point → Type 0
-Near tolerance q before = (k : Coordinate) → natAbs (positionOf k q -ℤ positionOf k before) ≤ tolerance * D
+-- one of each kind: what the tests of an axis compare
+kinds : (t : Tolerances) (m n : Motion) → (agreesOn t m n ≡ true) ↔ ((natAbs (numerator (m .position) -ℤ numerator (n .position)) ≤ t .position * D) × (natAbs (numerator (m .velocity) -ℤ numerator (n .velocity)) ≤ t .velocity * D))
+unfolding changeOf
+kinds t m n = Iff·trans (agrees-iff t m n) ((λ h. (h ofPosition, h ofVelocity)), both)
+  where
+    both : (apartBy (m .position) (n .position) ≤ t .position * D) × (apartBy (m .velocity) (n .velocity) ≤ t .velocity * D) → (kind : Kind) → apartBy (valueOf kind m) (valueOf kind n) ≤ toleranceOf kind t * D
+    both h ofPosition = h .0
+    both h ofVelocity = h .1
 
-module _ (tolerance : ℕ) (q before : Point) where
-  agreeing : pointsAgree tolerance q before ≡ true → Near tolerance q before
-  unfolding pointsAgree changeOf
-  agreeing e onX = let (x, (y, z)) = simp joined at e in agrees-iff tolerance (q .x) (before .x) .0 x
-  agreeing e onY = let (x, (y, z)) = simp joined at e in agrees-iff tolerance (q .y) (before .y) .0 y
-  agreeing e onZ = let (x, (y, z)) = simp joined at e in agrees-iff tolerance (q .z) (before .z) .0 z
+module _ (t : Tolerances) (q before : Point) where
+  agreeing : pointsAgree t q before ≡ true → Near t q before
+  unfolding pointsAgree
+  agreeing e onX = let (x, (y, z)) = simp joined at e in kinds t (q .x) (before .x) .0 x
+  agreeing e onY = let (x, (y, z)) = simp joined at e in kinds t (q .y) (before .y) .0 y
+  agreeing e onZ = let (x, (y, z)) = simp joined at e in kinds t (q .z) (before .z) .0 z
 
-  near : Near tolerance q before → pointsAgree tolerance q before ≡ true
-  unfolding pointsAgree changeOf
-  near h =
-      simp joined (
-        agrees-iff tolerance (q .x) (before .x) .1 (h onX),
-        (agrees-iff tolerance (q .y) (before .y) .1 (h onY), agrees-iff tolerance (q .z) (before .z) .1 (h onZ)),
-      )
+  near : Near t q before → pointsAgree t q before ≡ true
+  unfolding pointsAgree
+  near h = simp joined (kinds t (q .x) (before .x) .1 (h onX), (kinds t (q .y) (before .y) .1 (h onY), kinds t (q .z) (before .z) .1 (h onZ)))
 
-  pub apart : Decides (pointsAgree tolerance q before) (Near tolerance q before)
+  pub apart : Decides (pointsAgree t q before) (Near t q before)
   apart = decides (agreeing, near)
 
 pub agreement : (s : Session) (q : Point) → Decides (agrees s q) (Within s q)
 unfolding agrees
-agreement s q = apart (s .tolerance) q (estimateOf s)
+agreement s q = apart (s .tolerances) q (estimateOf s)
+
+tolerable : (t : Tolerances) → Tolerable t ↔ ((t .position ≤ 1048576) × (t .velocity ≤ 1048576))
+tolerable t = ((λ h. (h .position, h .velocity)), (λ h. record { position = h .0; velocity = h .1 }))
 
 -- ---- the tables
 
@@ -157,13 +164,13 @@ module _ (r : Request) where
   pub enough : Decides (eqb (length (r .floats)) (3 * r .points)) (length (r .floats) ≡ 3 * r .points)
   enough = decides (eqb-true (length (r .floats)) (3 * r .points), eq-eqb (length (r .floats)) (3 * r .points))
 
-  pub settings : Decides (settingsHold (r .tolerance) (r .limit)) ((r .tolerance ≤ 1048576) × ((1 ≤ r .limit) × (r .limit ≤ 8)))
-  settings = decides (settings-hold (r .tolerance) (r .limit))
+  pub settings : Decides (settingsHold (r .tolerances) (r .limit)) (Settings (r .tolerances) (r .limit))
+  settings = decides (Iff·trans (settings-hold (r .tolerances) (r .limit)) (Iff·and (tolerable (r .tolerances)) Iff·rfl))
 
   pub start : Decides (pointInRange (wholePoint (r .start))) (PlacedPoint (wholePoint (r .start)))
   start = range (wholePoint (r .start)) (start-placed (r .start))
 
-  pub open-table : Exactly (openTable r) (openRefusal (r .points) (r .tolerance) (r .limit) (r .start) (r .floats))
+  pub open-table : Exactly (openTable r) (openRefusal (r .points) (r .tolerances) (r .limit) (r .start) (r .floats))
   unfolding openRefusal
   open-table =
       let p = passed points in
@@ -172,18 +179,18 @@ module _ (r : Request) where
       let q = passed start in
       let f = unfit (r .floats) in
       let l = large (r .floats) in (
-        Iff·trans (open-1 (r .points) (r .tolerance) (r .limit) (r .start) (r .floats)) (points .no),
+        Iff·trans (open-1 (r .points) (r .tolerances) (r .limit) (r .start) (r .floats)) (points .no),
         (
-          Iff·trans (open-2 (r .points) (r .tolerance) (r .limit) (r .start) (r .floats)) (Iff·and p (enough .no)),
+          Iff·trans (open-2 (r .points) (r .tolerances) (r .limit) (r .start) (r .floats)) (Iff·and p (enough .no)),
           (
-            Iff·trans (open-3 (r .points) (r .tolerance) (r .limit) (r .start) (r .floats)) (Iff·and p (Iff·and e (settings .no))),
+            Iff·trans (open-3 (r .points) (r .tolerances) (r .limit) (r .start) (r .floats)) (Iff·and p (Iff·and e (settings .no))),
             (
-              Iff·trans (open-6 (r .points) (r .tolerance) (r .limit) (r .start) (r .floats)) (Iff·and p (Iff·and e (Iff·and t (start .no)))),
+              Iff·trans (open-6 (r .points) (r .tolerances) (r .limit) (r .start) (r .floats)) (Iff·and p (Iff·and e (Iff·and t (start .no)))),
               (
-                Iff·trans (open-4 (r .points) (r .tolerance) (r .limit) (r .start) (r .floats)) (Iff·and p (Iff·and e (Iff·and t (Iff·and q (f .yes))))),
+                Iff·trans (open-4 (r .points) (r .tolerances) (r .limit) (r .start) (r .floats)) (Iff·and p (Iff·and e (Iff·and t (Iff·and q (f .yes))))),
                 (
-                  Iff·trans (open-5 (r .points) (r .tolerance) (r .limit) (r .start) (r .floats)) (Iff·and p (Iff·and e (Iff·and t (Iff·and q (Iff·and (f .no) (l .yes)))))),
-                  Iff·trans (simp joined at (none-passes (openRules (r .points) (r .tolerance) (r .limit) (r .start) (r .floats)) refl)) (Iff·and p (Iff·and e (Iff·and t (Iff·and q (Iff·and (f .no) (Iff·and (l .no) Iff·rfl)))))),
+                  Iff·trans (open-5 (r .points) (r .tolerances) (r .limit) (r .start) (r .floats)) (Iff·and p (Iff·and e (Iff·and t (Iff·and q (Iff·and (f .no) (l .yes)))))),
+                  Iff·trans (simp joined at (none-passes (openRules (r .points) (r .tolerances) (r .limit) (r .start) (r .floats)) refl)) (Iff·and p (Iff·and e (Iff·and t (Iff·and q (Iff·and (f .no) (Iff·and (l .no) Iff·rfl)))))),
                 ),
               ),
             ),

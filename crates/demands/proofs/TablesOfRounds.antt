@@ -26,8 +26,8 @@ use Rattle.steps.specs.Refusals.{isLast}
 use Rattle.rounds.specs.Refusals.{givenRound, startRules, startRefusal, laterRound, refineRules, refineRefusal}
 use Rattle.rounds.proofs.Refusals.{FirstBy, start-first, refine-2, refine-4, refine-5, refine-6, refine-7, refine-8}
 use Rattle.demands.specs.Histories.{Request}
-use Rattle.demands.specs.Refusals.{Rule, Exactly, First, Unrefused, PlacedRound, RoundWithin, Even, startTable, refineTable}
-use Rattle.demands.proofs.Tables.{Decides, decides, passed, unfit, large, range, Near, apart, last, points, enough, settings, start}
+use Rattle.demands.specs.Refusals.{Rule, Exactly, First, Unrefused, PlacedRound, Near, RoundWithin, Even, startTable, refineTable}
+use Rattle.demands.proofs.Tables.{Decides, decides, passed, unfit, large, range, apart, last, points, enough, settings, start}
 
 -- ---- the first rule that applies
 
@@ -131,26 +131,26 @@ round-range : (r : Round) → Decides (roundInRange r) (PlacedRound r)
 unfolding roundInRange
 round-range r = every (λ j. pointInRange (earlierPoint r j)) (λ j. PlacedPoint (earlierPoint r j)) (λ j. range (earlierPoint r j) (earlier-point-placed r j)) (r .points)
 
-rounds-apart : (s : Session) (r : Round) → Decides (roundsAgree (s .tolerance) r (heldRound s)) (RoundWithin s r)
+rounds-apart : (s : Session) (r : Round) → Decides (roundsAgree (s .tolerances) r (heldRound s)) (RoundWithin s r)
 unfolding roundsAgree
 rounds-apart s r =
-    every (λ j. pointsAgree (s .tolerance) (earlierPoint r j) (earlierPoint (heldRound s) j)) (λ j. Near (s .tolerance) (earlierPoint r j) (earlierPoint (heldRound s) j))
-    (λ j. apart (s .tolerance) (earlierPoint r j) (earlierPoint (heldRound s) j)) (r .points)
+    every (λ j. pointsAgree (s .tolerances) (earlierPoint r j) (earlierPoint (heldRound s) j)) (λ j. Near (s .tolerances) (earlierPoint r j) (earlierPoint (heldRound s) j))
+    (λ j. apart (s .tolerances) (earlierPoint r j) (earlierPoint (heldRound s) j)) (r .points)
 
 -- ---- a first round
 
 module _ (r : Request) where
   abbrev pub start-refusal : ℕ
-  start-refusal = startRefusal (r .points) (r .tolerance) (r .limit) (r .start) (r .floats)
+  start-refusal = startRefusal (r .points) (r .tolerances) (r .limit) (r .start) (r .floats)
 
-  start-decided : Decided (startRules (r .points) (r .tolerance) (r .limit) (r .start) (r .floats)) (startTable r)
+  start-decided : Decided (startRules (r .points) (r .tolerances) (r .limit) (r .start) (r .floats)) (startTable r)
   start-decided = (
     opposite (points r),
     λ some. (centred (r .points) (points r .yes .0 (passed (points r) .1 some)), λ _. (opposite (enough r), λ _. (opposite (settings r), λ _. (opposite (start r), λ _. (unfit (r .floats), λ _. (large (r .floats), λ _. (opposite (round-range (givenRound (r .points) (wholePoint (r .start)) (r .floats))), λ _. tt))))))),
   )
 
   pub start-table : First (startTable r) start-refusal
-  start-table = first-decided (startRules (r .points) (r .tolerance) (r .limit) (r .start) (r .floats)) (startTable r) start-refusal refl start-decided (start-first (r .points) (r .tolerance) (r .limit) (r .start) (r .floats))
+  start-table = first-decided (startRules (r .points) (r .tolerances) (r .limit) (r .start) (r .floats)) (startTable r) start-refusal refl start-decided (start-first (r .points) (r .tolerances) (r .limit) (r .start) (r .floats))
 
   -- it is 0 exactly where no rule applies
   pub start-none : (start-refusal ≡ 0) ↔ Unrefused (startTable r)
@@ -162,7 +162,7 @@ module _ (s : Session) (floats : List Float) where
   abbrev later : Round
   later = laterRound s floats
 
-  pub round-agreement : Decides (roundsAgree (s .tolerance) later (heldRound s)) (RoundWithin s later)
+  pub round-agreement : Decides (roundsAgree (s .tolerances) later (heldRound s)) (RoundWithin s later)
   round-agreement = rounds-apart s later
 
   pub refine-table : Exactly (refineTable s floats) (refineRefusal s floats)
@@ -176,7 +176,7 @@ module _ (s : Session) (floats : List Float) where
       let l = large floats in
       let r = round-range later in
       let g = round-agreement in
-      let agreed = roundsAgree (s .tolerance) later (heldRound s) in
+      let agreed = roundsAgree (s .tolerances) later (heldRound s) in
       let eight = decides {t = not agreed and isLast s} (Iff·trans (and-eq-true-iff (not agreed) (isLast s)) (Iff·and (Iff·trans (not-true-iff agreed) (g .no)) (last s .yes))) in (
         Iff·trans (refine-7 s floats) (standing .no),
         (

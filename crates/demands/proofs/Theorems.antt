@@ -4,7 +4,7 @@ use Rattle.demands.proofs.Ours.{demand1, demand2, formulas, demand3, co
 use Rattle.demands.proofs.Cowell.{in-ticks}
 use Rattle.demands.proofs.Alike.{same-next}
 use Rattle.demands.proofs.Opens.{opening-sample}
-use Rattle.demands.proofs.Openings.{anew, anew-start, of-openings, of-starts, closed, unopened, unstarted, waits, goes-on}
+use Rattle.demands.proofs.Openings.{anew, anew-start, of-openings, of-starts, closed, bad-settings, unopened, unstarted, waits, goes-on}
 use Rattle.demands.proofs.Unique as U
 use Rattle.demands.proofs.TurnedDown as T
 
@@ -22,6 +22,7 @@ our-calls =
       waits = waits;
       goesOn = goes-on;
       closed = closed;
+      badSettings = bad-settings;
       unopened = unopened;
       unstarted = unstarted;
     }

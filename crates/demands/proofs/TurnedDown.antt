@@ -11,21 +11,21 @@ use Rattle.session.specs.declared.Session.{Session}
 use Rattle.session.specs.Moves.{presentPoint}
 use Rattle.steps.specs.declared.Prediction.{Prediction}
 use Rattle.steps.specs.declared.Prediction.the-variants as P
-use Rattle.steps.specs.Answers.{noPoint, reportedPoint, predictionAnswer}
+use Rattle.steps.specs.Answers.{noPoint, reportedPoint, predictionAnswer, correctionAnswer}
 use Rattle.steps.specs.Steps.{predictOf}
 use Rattle.demands.specs.Coordinates.{onX}
 use Rattle.demands.specs.Histories.{Call, predict, correct, withdraw, refine, predicting, correcting, after, history, entries, samplesOf}
 use Rattle.demands.specs.Refusals.{Exactly, Unrefused, openTable, predictTable}
 use Rattle.demands.specs.ClosedForm.{Origin, Begins, origin, Predicts, Corrects, Tells}
 use Rattle.demands.specs.Demands.{Unsummed, Demand1, Demand2, Formulas, Demand3, Counts, Leaves}
-use Rattle.demands.specs.BadVersions.{zeroed, refusing, predictingZero, unmoving, repeating, inventingPoints, inventingCorrections}
+use Rattle.demands.specs.BadVersions.{zeroed, refusing, predictingZero, unmoving, repeating, inventingPoints, inventingCorrections, ignoringVelocities}
 use Rattle.demands.specs.Theorems.{TurnedDown}
-use Rattle.demands.proofs.Tables.{open-table, predict-table}
+use Rattle.demands.proofs.Tables.{open-table, predict-table, correct-table, agreement}
 use Rattle.demands.proofs.Opens.{open-begins}
 use Rattle.demands.proofs.Alike.{same-point}
 use Rattle.demands.proofs.Ours.{demand1}
 use Rattle.demands.proofs.RoundsTurnedDown as R
-use Rattle.demands.proofs.Examples.{wide, start, a24, round, repeatingOnce, repeatingWaits, predicted, stateNumber, computed}
+use Rattle.demands.proofs.Examples.{wide, turning, turningOnce, waiting, start, a24, round, repeatingOnce, repeatingWaits, predicted, stateNumber, computed}
 
 clash : _≡_ {A = ℕ} 0 1 → ⊥
 clash h = omega arith
@@ -159,6 +159,20 @@ predictingZero1 =
       blankRound = demand1 .blankRound;
     }
 
+-- ---- looks at positions alone: it accepts where the velocity moved by 6 ticks and 5 are allowed, which asks for another correction, or for 8
+
+ignoringVelocities1 : ¬ Demand1 ignoringVelocities
+ignoringVelocities1 d =
+    let (_, (_, (_, (_, (eight, _))))) = correct-table (waiting turningOnce) a24 in
+    let (_, (_, (_, (_, (given, _))))) = d .corrects (waiting turningOnce) a24 in
+    omega (arith, sym (computed .ignoredLast) ∙ given .1 (eight .0 (computed .turnedLast)))
+
+ignoringVelocities2 : ¬ Demand2 ignoringVelocities
+ignoringVelocities2 d =
+    let (_, (_, (_, (_, (_, none))))) = correct-table (waiting turning) a24 in
+    let again = d .repeats (waiting turning) a24 (none .0 (computed .turnsAgain)) (agreement (waiting turning) _ .no .0 (computed .turned)) in
+    omega (arith, sym (computed .ignored) ∙ ap (λ r. correctionAnswer (r .answer) .kind) again)
+
 pub turned-down : TurnedDown
 turned-down =
     record {
@@ -177,6 +191,9 @@ turned-down =
       openingAtOnceLeaves = R.openingAtOnceLeaves;
       openingAnyhow2 = R.openingAnyhow2;
       neverCountingCounts = R.neverCountingCounts;
+      ignoringVelocities1 = ignoringVelocities1;
+      ignoringVelocities2 = ignoringVelocities2;
+      ignoringVelocitiesOfRounds2 = R.ignoringVelocitiesOfRounds2;
       refusing3 = refusing3;
       predictingZero1 = predictingZero1;
     }

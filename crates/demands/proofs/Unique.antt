@@ -97,7 +97,7 @@ given e z = suc-ne-zero _ (sym e ∙ z)
 
 module _ (I : Implementation) (d : Demand1 I) where
   opening-number : (r : Request) → openNumber I r ≡ refusal r
-  opening-number r = one-number (openTable r) (openNumber I r) (refusal r) (open-numbers (r .points) (r .tolerance) (r .limit) (r .start) (r .floats)) (open-table r) (d .opens r)
+  opening-number r = one-number (openTable r) (openNumber I r) (refusal r) (open-numbers (r .points) (r .tolerances) (r .limit) (r .start) (r .floats)) (open-table r) (d .opens r)
 
   prediction-number : (s : Session) → predictNumber I s ≡ predictRefusal s
   prediction-number s = one-number (predictTable s) (predictNumber I s) (predictRefusal s) (predict-numbers s) (predict-table s) (d .predicts s)
@@ -182,14 +182,14 @@ module _ (I J : Implementation) (d : Demand1 I) (e : Demand2 I) (f : Demand1 J) 
   same-first-round r zero h = let u = start-none r .0 h in e .starts r u ∙ sym (g .starts r u)
   same-first-round r (suc n) h = refused-first-round I d r n h ∙ sym (refused-first-round J f r n h)
 
-  same-round-judgement : (s : Session) (floats : List Float) → Unrefused (refineTable s floats) → (t : Bool) → roundsAgree (s .tolerance) (laterRound s floats) (heldRound s) ≡ t → I .refines s floats ≡ J .refines s floats
+  same-round-judgement : (s : Session) (floats : List Float) → Unrefused (refineTable s floats) → (t : Bool) → roundsAgree (s .tolerances) (laterRound s floats) (heldRound s) ≡ t → I .refines s floats ≡ J .refines s floats
   same-round-judgement s floats u true h = let w = round-agreement s floats .yes .0 h in e .opensRound s floats u w ∙ sym (g .opensRound s floats u w)
   same-round-judgement s floats u false h = let w = round-agreement s floats .no .0 h in e .asksMore s floats u w ∙ sym (g .asksMore s floats u w)
 
   same-later-round : (s : Session) (floats : List Float) (n : ℕ) → refineRefusal s floats ≡ n → I .refines s floats ≡ J .refines s floats
   same-later-round s floats zero h =
       let (_, (_, (_, (_, (_, (_, none)))))) = refine-table s floats in
-      same-round-judgement s floats (none .0 h) (roundsAgree (s .tolerance) (laterRound s floats) (heldRound s)) refl
+      same-round-judgement s floats (none .0 h) (roundsAgree (s .tolerances) (laterRound s floats) (heldRound s)) refl
   same-later-round s floats (suc n) h = refused-later-round I d s floats n h ∙ sym (refused-later-round J f s floats n h)
 
   pub unique : Agree I J

@@ -1,10 +1,18 @@
 -- The bad versions that inspection is to turn down, each as an implementation of the six calls. Definitions only.
 use Prim.Native.Nat.{ℕ, zero, suc, _+_}
+use mathlib.Core.Bool.{Bool, true, false, cond}
 use mathlib.Core.List.{List}
+use lib.Dec.{eqb}
 use lib.Ieee.{Float}
+use Rattle.integers.specs.Tests.{_and_}
+use Rattle.ticks.specs.declared.Sample.{Sample}
+use Rattle.ticks.specs.Samples.{wholeOf}
+use Rattle.axis.specs.declared.Tolerances.{Tolerances}
+use Rattle.axis.specs.Agreement.{within}
+use Rattle.session.specs.declared.Point.{Point}
 use Rattle.session.specs.declared.Session.{Session}
 use Rattle.session.specs.declared.State.the-variants.{Settled}
-use Rattle.session.specs.Moves.{presentPoint, became, settledAgain, closedSession}
+use Rattle.session.specs.Moves.{presentPoint, correctedPoint, estimateOf, became, settledAgain, acceptedAt, closedSession}
 use Rattle.steps.specs.declared.AfterCorrect.{AfterCorrect}
 use Rattle.steps.specs.declared.Prediction.{Prediction}
 use Rattle.steps.specs.declared.Correction.{Correction}
@@ -15,7 +23,8 @@ use Rattle.steps.specs.declared.Withdrawal.the-variants as W
 use Rattle.steps.specs.Answers.{noPoint, reportedPoint}
 use Rattle.steps.specs.Steps.{predictOf, correctOf, withdrawOf}
 use Rattle.steps.specs.Opening.{wholePoint}
-use Rattle.starting.specs.Records.{openedRound}
+use Rattle.starting.specs.Rounds.{earlierPoint, everyBelow}
+use Rattle.starting.specs.Records.{heldRound, openedRound}
 use Rattle.rounds.specs.declared.AfterRound.{AfterRound}
 use Rattle.rounds.specs.declared.Outcome.{Outcome}
 use Rattle.rounds.specs.declared.Outcome.the-variants as R
@@ -120,7 +129,7 @@ inventingCorrections =
 abbrev pub openedAtOnce : Request → AfterRound → Outcome → AfterRound
 openedAtOnce r a (R.More c) =
     let round = givenRound (r .points) (wholePoint (r .start)) (r .floats) in
-    record { session = openedRound (r .tolerance) (r .limit) round; answer = told R.Opened round }
+    record { session = openedRound (r .tolerances) (r .limit) round; answer = told R.Opened round }
 openedAtOnce r a R.Opened = a
 openedAtOnce r a (R.Refused n) = a
 
@@ -139,7 +148,7 @@ openingAtOnce =
 abbrev pub openedAnyhow : Session → List Float → AfterRound → Outcome → AfterRound
 openedAnyhow s floats a (R.More c) =
     let round = laterRound s floats in
-    record { session = openedRound (s .tolerance) (s .limit) round; answer = told R.Opened round }
+    record { session = openedRound (s .tolerances) (s .limit) round; answer = told R.Opened round }
 openedAnyhow s floats a R.Opened = a
 openedAnyhow s floats a (R.Refused n) = a
 
@@ -169,4 +178,49 @@ neverCounting =
       withdraws = withdrawOf;
       starts = ours .starts;
       refines = λ s floats. let a = refineOf s floats in record { session = uncounted (a .session) (a .answer .outcome); answer = a .answer };
+    }
+
+-- looks at positions alone: accepts a point, also at the last correction, where no position moved beyond its tolerance, however the velocities moved
+abbrev pub positionsAgree : Tolerances → Point → Point → Bool
+positionsAgree t q before =
+    within (t .position) (q .x .position) (before .x .position)
+    and within (t .position) (q .y .position) (before .y .position)
+    and within (t .position) (q .z .position) (before .z .position)
+
+abbrev pub acceptedBy : Bool → Session → Sample → AfterCorrect → Correction → AfterCorrect
+acceptedBy false s a r c = r
+acceptedBy true s a r (C.Accepted q) = r
+acceptedBy true s a r (C.Again q c) = record { session = acceptedAt s (wholeOf a); answer = C.Accepted q }
+acceptedBy true s a r (C.Refused n) =
+    cond (eqb n 8) (record { session = acceptedAt s (wholeOf a); answer = C.Accepted (reportedPoint (correctedPoint s (wholeOf a))) }) r
+
+abbrev pub ignoringVelocities : Implementation
+ignoringVelocities =
+    record {
+      opens = ours .opens;
+      predicts = predictOf;
+      corrects = λ s a. acceptedBy (positionsAgree (s .tolerances) (correctedPoint s (wholeOf a)) (estimateOf s)) s a (correctOf s a) (correctOf s a .answer);
+      withdraws = withdrawOf;
+      starts = ours .starts;
+      refines = refineOf;
+    }
+
+-- the same in rounds: opens at a later round that is not refused where no position moved beyond its tolerance
+abbrev pub openedBy : Bool → Session → List Float → AfterRound → AfterRound
+openedBy false s floats a = a
+openedBy true s floats a = openedAnyhow s floats a (a .answer .outcome)
+
+abbrev pub ignoringVelocitiesOfRounds : Implementation
+ignoringVelocitiesOfRounds =
+    record {
+      opens = ours .opens;
+      predicts = predictOf;
+      corrects = correctOf;
+      withdraws = withdrawOf;
+      starts = ours .starts;
+      refines =
+          λ s floats.
+          openedBy
+          (everyBelow (s .points) (λ j. positionsAgree (s .tolerances) (earlierPoint (laterRound s floats) j) (earlierPoint (heldRound s) j)))
+          s floats (refineOf s floats);
     }

@@ -86,14 +86,14 @@ pub record Demand1 (I : Implementation) : Type 0 where
 pub record Demand2 (I : Implementation) : Type 0 where
   -- the record asked for, and an answer without values
   pub opens : (r : Request) → Unrefused (openTable r) →
-      I .opens r ≡ record { session = openedWith (r .points) (r .tolerance) (r .limit) (wholePoint (r .start)) (r .floats); answer = O.Opened }
+      I .opens r ≡ record { session = openedWith (r .points) (r .tolerances) (r .limit) (wholePoint (r .start)) (r .floats); answer = O.Opened }
   -- the predicted point, which the record awaits
   pub predicts : (s : Session) → Unrefused (predictTable s) →
       I .predicts s ≡ record { session = awaitingAt s 0 (predictedPoint s); answer = P.Predicted (reportedPoint (predictedPoint s)) }
-  -- the corrected point: accepted where every axis is within the tolerance
+  -- the corrected point: accepted where all six changes are within their own tolerance
   pub accepts : (s : Session) (a : Sample) → Unrefused (correctTable s a) → Within s (correctedPoint s (wholeOf a)) →
       I .corrects s a ≡ record { session = acceptedAt s (wholeOf a); answer = C.Accepted (reportedPoint (correctedPoint s (wholeOf a))) }
-  -- and else the new estimate, with one correction more and the largest change
+  -- and else the new estimate, with one correction more and the largest change of each kind
   pub repeats : (s : Session) (a : Sample) → Unrefused (correctTable s a) → ¬ Within s (correctedPoint s (wholeOf a)) →
       let q = correctedPoint s (wholeOf a) in
       I .corrects s a ≡ record { session = awaitingAt s (s .corrections + 1) q; answer = C.Again (reportedPoint q) (reportedChange (largestChange s q)) }
@@ -103,16 +103,16 @@ pub record Demand2 (I : Implementation) : Type 0 where
   pub starts : (r : Request) → Unrefused (startTable r) →
       let q = wholePoint (r .start) in
       let round = givenRound (r .points) q (r .floats) in
-      I .starts r ≡ record { session = startingFrom (r .tolerance) (r .limit) 0 q round; answer = told (R.More noChange) round }
-  -- a later round opens the session at its newest point where no position moved by more than the tolerance
+      I .starts r ≡ record { session = startingFrom (r .tolerances) (r .limit) 0 q round; answer = told (R.More noChange) round }
+  -- a later round opens the session at its newest point where at every point all six changes are within their own tolerance
   pub opensRound : (s : Session) (floats : List Float) → Unrefused (refineTable s floats) → RoundWithin s (laterRound s floats) →
       let round = laterRound s floats in
-      I .refines s floats ≡ record { session = openedRound (s .tolerance) (s .limit) round; answer = told R.Opened round }
-  -- and else asks for more, with the largest change, one round more and this round's samples
+      I .refines s floats ≡ record { session = openedRound (s .tolerances) (s .limit) round; answer = told R.Opened round }
+  -- and else asks for more, with the largest change of each kind, one round more and this round's samples
   pub asksMore : (s : Session) (floats : List Float) → Unrefused (refineTable s floats) → ¬ RoundWithin s (laterRound s floats) →
       let round = laterRound s floats in
       I .refines s floats ≡ record {
-        session = startingFrom (s .tolerance) (s .limit) (s .corrections + 1) (estimateOf s) round;
+        session = startingFrom (s .tolerances) (s .limit) (s .corrections + 1) (estimateOf s) round;
         answer = told (R.More (reportedChange (largestMove round (heldRound s)))) round;
       }
 

@@ -6,6 +6,7 @@ use lib.Ieee.{Float}
 use Rattle.ticks.specs.declared.Sample.{Sample}
 use Rattle.ticks.specs.declared.WholeSample.{WholeSample}
 use Rattle.ticks.specs.Samples.{wholeOf}
+use Rattle.axis.specs.declared.Tolerances.{Tolerances}
 use Rattle.session.specs.declared.Session.{Session}
 use Rattle.steps.specs.declared.Start.{Start}
 use Rattle.steps.specs.declared.ReportedPoint.{ReportedPoint}
@@ -30,7 +31,7 @@ use Rattle.rounds.specs.Steps.{startOf, refineOf}
 -- what `open` and a first round are given
 pub record Request : Type 0 where
   pub points : ℕ
-  pub tolerance : ℕ
+  pub tolerances : Tolerances
   pub limit : ℕ
   pub start : Start
   pub floats : List Float
@@ -48,11 +49,11 @@ pub record Implementation : Type 0 where
 abbrev pub ours : Implementation
 ours =
     record {
-      opens = λ r. openOf (r .points) (r .tolerance) (r .limit) (r .start) (r .floats);
+      opens = λ r. openOf (r .points) (r .tolerances) (r .limit) (r .start) (r .floats);
       predicts = predictOf;
       corrects = correctOf;
       withdraws = withdrawOf;
-      starts = λ r. startOf (r .points) (r .tolerance) (r .limit) (r .start) (r .floats);
+      starts = λ r. startOf (r .points) (r .tolerances) (r .limit) (r .start) (r .floats);
       refines = refineOf;
     }
 

@@ -11,6 +11,7 @@ use lib.ListN.{length}
 use Rattle.exact.specs.Numerator.{D}
 use Rattle.ticks.specs.declared.Sample.{Sample}
 use Rattle.ticks.specs.Samples.{axesOf, wholeOf}
+use Rattle.axis.specs.declared.Tolerances.{Tolerances}
 use Rattle.session.specs.declared.Point.{Point}
 use Rattle.session.specs.declared.Session.{Session}
 use Rattle.session.specs.Numbers.{mostPoints}
@@ -22,7 +23,7 @@ use Rattle.starting.specs.declared.Round.{Round}
 use Rattle.starting.specs.Rounds.{earlierPoint}
 use Rattle.starting.specs.Records.{heldRound, starting}
 use Rattle.rounds.specs.Refusals.{givenRound, laterRound}
-use Rattle.demands.specs.Coordinates.{Coordinate, positionOf}
+use Rattle.demands.specs.Coordinates.{Coordinate, positionOf, velocityOf}
 use Rattle.demands.specs.Histories.{Request}
 
 -- ---- tables
@@ -75,16 +76,22 @@ TooLarge nan = ⊥
 TooLarge (inf s) = ⊥
 TooLarge (fin s m e) = 2 ^ 28 < closest (m * up e) (down e)
 
--- p is 1 to 9; the tolerance is at most 1,048,576, and the limit 1 to 8
+-- p is 1 to 9; each of the two tolerances is at most 1,048,576, and the limit 1 to 8
 abbrev pub SomePoints : ℕ → Type 0
 SomePoints p = (1 ≤ p) × (p ≤ 9)
 
-abbrev pub Settings : ℕ → ℕ → Type 0
-Settings tolerance limit = (tolerance ≤ 1048576) × ((1 ≤ limit) × (limit ≤ 8))
+abbrev pub Settings : Tolerances → ℕ → Type 0
+Settings t limit = ((t .position ≤ 1048576) × (t .velocity ≤ 1048576)) × ((1 ≤ limit) × (limit ≤ 8))
 
--- on each axis the exact position change from the last estimate is at most the tolerance
+-- on each axis the exact position change is at most the one tolerance, and the exact velocity change at most the other: all six
+abbrev pub Near : Tolerances → Point → Point → Type 0
+Near t q before =
+    (k : Coordinate) →
+    (natAbs (positionOf k q -ℤ positionOf k before) ≤ t .position * D) × (natAbs (velocityOf k q -ℤ velocityOf k before) ≤ t .velocity * D)
+
+-- a corrected point, from the last estimate
 abbrev pub Within : Session → Point → Type 0
-Within s q = (k : Coordinate) → natAbs (positionOf k q -ℤ positionOf k (estimateOf s)) ≤ s .tolerance * D
+Within s q = Near (s .tolerances) q (estimateOf s)
 
 -- this correction is the last that the limit allows
 abbrev pub Last : Session → Type 0
@@ -94,10 +101,9 @@ Last s = s .limit ≤ s .corrections + 1
 abbrev pub PlacedRound : Round → Type 0
 PlacedRound r = (j : ℕ) → j < r .points → PlacedPoint (earlierPoint r j)
 
--- at every point of a round, on each axis, the exact position change from the round that the record holds is at most the tolerance
+-- every point of a round, from the round that the record holds
 abbrev pub RoundWithin : Session → Round → Type 0
-RoundWithin s r =
-    (j : ℕ) → j < r .points → (k : Coordinate) → natAbs (positionOf k (earlierPoint r j) -ℤ positionOf k (earlierPoint (heldRound s) j)) ≤ s .tolerance * D
+RoundWithin s r = (j : ℕ) → j < r .points → Near (s .tolerances) (earlierPoint r j) (earlierPoint (heldRound s) j)
 
 -- p is even
 abbrev pub Even : ℕ → Type 0
@@ -109,7 +115,7 @@ abbrev pub openTable : Request → List Rule
 openTable r =
     rule 1 (¬ SomePoints (r .points))
     ∷ rule 2 (¬ (length (r .floats) ≡ 3 * r .points))
-    ∷ rule 3 (¬ Settings (r .tolerance) (r .limit))
+    ∷ rule 3 (¬ Settings (r .tolerances) (r .limit))
     ∷ rule 6 (¬ PlacedPoint (wholePoint (r .start)))
     ∷ rule 4 (Some NotFinite (r .floats))
     ∷ rule 5 (Some TooLarge (r .floats))
@@ -140,7 +146,7 @@ startTable r =
     rule 1 (¬ SomePoints (r .points))
     ∷ rule 10 (Even (r .points) ⊎ (r .points ≡ 1))
     ∷ rule 2 (¬ (length (r .floats) ≡ 3 * r .points))
-    ∷ rule 3 (¬ Settings (r .tolerance) (r .limit))
+    ∷ rule 3 (¬ Settings (r .tolerances) (r .limit))
     ∷ rule 6 (¬ PlacedPoint (wholePoint (r .start)))
     ∷ rule 4 (Some NotFinite (r .floats))
     ∷ rule 5 (Some TooLarge (r .floats))

@@ -21,11 +21,12 @@ use Rattle.rounds.specs.declared.Outcome.the-variants as R
 use Rattle.rounds.specs.Steps.{refused}
 use Rattle.demands.specs.Coordinates.{Coordinate}
 use Rattle.demands.specs.Histories.{Request, Implementation, ours, Call, predict, correct, withdraw, refine, Event, predicting, correcting, withdrawing, refining, step, event, after, history, Act, opening, firstRound, calling, lived, entries, samplesOf, agains}
+use Rattle.demands.specs.Refusals.{Settings}
 use Rattle.demands.specs.ClosedForm.{Origin, Begins, place, openingSamples, origin, startOrigin}
 use Rattle.demands.specs.Demands.{openNumber, startNumber, Demand1, Demand2, Formulas, Unsummed, UnsummedInTicks, SamePoint, Demand3, Counts, Leaves, Agree}
-use Rattle.demands.specs.BadVersions.{refusing, predictingZero, unmoving, repeating, inventingPoints, inventingCorrections, openingAtOnce, openingAnyhow, neverCounting}
+use Rattle.demands.specs.BadVersions.{refusing, predictingZero, unmoving, repeating, inventingPoints, inventingCorrections, openingAtOnce, openingAnyhow, neverCounting, ignoringVelocities, ignoringVelocitiesOfRounds}
 
--- opened alike: the same p, position, velocity and rounded opening samples; the tolerance and the limit may differ
+-- opened alike: the same p, position, velocity and rounded opening samples; the tolerances and the limit may differ
 pub record Alike (q r : Request) : Type 0 where
   pub points : q .points ≡ r .points
   pub start : q .start ≡ r .start
@@ -98,6 +99,8 @@ pub record OurCalls : Type 0 where
   pub goesOn : (s : Session) → holds s ≡ true → (floats : List Float) → (step ours s (refine floats) ≡ s) × (event ours s (refine floats) ≡ refused7 (refine floats))
   -- a record that counts as closed is refused with 7 by every call but `open` and a first round, and untouched
   pub closed : (s : Session) → holds s ≡ false → starting s ≡ false → (call : Call) → (step ours s call ≡ s) × (event ours s call ≡ refused7 call)
+  -- such is a record of which a tolerance or the limit is out of range
+  pub badSettings : (s : Session) → ¬ Settings (s .tolerances) (s .limit) → (call : Call) → (step ours s call ≡ s) × (event ours s call ≡ refused7 call)
   -- after an `open` that was refused nothing is accepted, and the record stays closed and zero
   pub unopened : (r : Request) → NotZero (openNumber ours r) → (calls : List Call) →
       (after ours (ours .opens r .session) calls ≡ closedSession) × (entries (history ours (ours .opens r .session) calls) ≡ [])
@@ -148,6 +151,10 @@ pub record TurnedDown : Type 0 where
   pub openingAnyhow2 : ¬ Demand2 openingAnyhow
   -- counts no round: the counts
   pub neverCountingCounts : ¬ Counts neverCounting
+  -- looks at positions alone: demand 1's condition of 8, and demand 2; in rounds: demand 2
+  pub ignoringVelocities1 : ¬ Demand1 ignoringVelocities
+  pub ignoringVelocities2 : ¬ Demand2 ignoringVelocities
+  pub ignoringVelocitiesOfRounds2 : ¬ Demand2 ignoringVelocitiesOfRounds
   -- no demand holds for another: what refuses everything meets demand 3, and what predicts zero meets demand 1
   pub refusing3 : Demand3 refusing
   pub predictingZero1 : Demand1 predictingZero

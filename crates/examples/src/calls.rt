@@ -1,4 +1,5 @@
 // The four calls, each with a line on its answer.
+use axis::Tolerances;
 use console::say;
 use console::say_count;
 use console::say_exact;
@@ -14,16 +15,32 @@ use ticks::Sample;
 // What an opening is given beside its samples.
 pub struct Given {
     pub points: usize,
-    pub tolerance: u64,
+    pub tolerances: Tolerances,
     pub limit: u64,
     pub start: Start,
 }
 
-// One point, the widest tolerance and the highest limit, at a position and a velocity of x.
+// A tolerance of positions, beside the widest of velocities.
+pub fn of_position(position: u64) -> Tolerances {
+    Tolerances {
+        position,
+        velocity: 1_048_576,
+    }
+}
+
+// A tolerance of velocities, beside the widest of positions.
+pub fn of_velocity(velocity: u64) -> Tolerances {
+    Tolerances {
+        position: 1_048_576,
+        velocity,
+    }
+}
+
+// One point, the widest tolerances and the highest limit, at a position and a velocity of x.
 pub fn one_point(position: i64, velocity: i64) -> Given {
     Given {
         points: 1,
-        tolerance: 1_048_576,
+        tolerances: of_position(1_048_576),
         limit: 8,
         start: on_x(position, velocity),
     }
@@ -70,15 +87,9 @@ fn say_point(name: &[u8], kind: u64, q: ReportedPoint) {
 }
 
 pub fn open(name: &[u8], s: Session, given: Given, samples: &[f64]) -> Session {
+    let tolerances = given.tolerances;
     let start = given.start;
-    let after = stepper::owned::open(
-        s,
-        given.points,
-        given.tolerance,
-        given.limit,
-        start,
-        samples,
-    );
+    let after = stepper::owned::open(s, given.points, tolerances, given.limit, start, samples);
     let answer = after.answer;
     match answer {
         Opening::Opened => say_number(name, 0),

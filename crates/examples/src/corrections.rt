@@ -3,18 +3,21 @@ use crate::calls::Given;
 use crate::calls::correct;
 use crate::calls::infinity;
 use crate::calls::not_a_number;
+use crate::calls::of_position;
+use crate::calls::of_velocity;
 use crate::calls::on_x;
 use crate::calls::one_point;
 use crate::calls::open;
 use crate::calls::predict;
 use crate::calls::sample;
+use axis::Tolerances;
 use session::Session;
 use session::closed;
 
-fn begun(tolerance: u64, limit: u64) -> Session {
+fn begun(tolerances: Tolerances, limit: u64) -> Session {
     let given = Given {
         points: 1,
-        tolerance,
+        tolerances,
         limit,
         start: on_x(1000, 10),
     };
@@ -41,7 +44,7 @@ fn states() {
 fn samples() {
     let s1 = correct(
         b"correct-nan",
-        begun(1, 1),
+        begun(of_position(1), 1),
         sample(24.0, not_a_number(), 0.0),
     );
     let s2 = correct(b"correct-infinity", s1, sample(24.0, 0.0, infinity()));
@@ -84,7 +87,11 @@ fn ranges() {
 
 // Eight corrections that each move the point by more than the tolerance.
 fn limit() {
-    let s1 = correct(b"correct-1", begun(0, 8), sample(24.0, 0.0, 0.0));
+    let s1 = correct(
+        b"correct-1",
+        begun(of_position(0), 8),
+        sample(24.0, 0.0, 0.0),
+    );
     let s2 = correct(b"correct-2", s1, sample(36.0, 0.0, 0.0));
     let s3 = correct(b"correct-3", s2, sample(-36.0, 0.0, 0.0));
     let s4 = correct(b"correct-4", s3, sample(-35.0, 0.0, 0.0));
@@ -98,9 +105,23 @@ fn limit() {
 
 // The change is compared by its size: 13 over 12 exceeds a tolerance of 1 on both sides.
 fn tolerance() {
-    let s1 = correct(b"correct-below", begun(1, 3), sample(-1.0, 0.0, 0.0));
+    let s1 = correct(
+        b"correct-below",
+        begun(of_position(1), 3),
+        sample(-1.0, 0.0, 0.0),
+    );
     let s2 = correct(b"correct-above", s1, sample(12.0, 0.0, 0.0));
     correct(b"correct-within", s2, sample(24.0, 12.0, -12.0));
+}
+
+// Positions agree at once, and velocities do not: the first correction moves that of x by 6, the second by 12.
+fn velocity() {
+    let s = correct(
+        b"again-by-velocity",
+        begun(of_velocity(5), 2),
+        sample(24.0, 0.0, 0.0),
+    );
+    correct(b"last-by-velocity", s, sample(48.0, 0.0, 0.0));
 }
 
 pub fn run() {
@@ -109,4 +130,5 @@ pub fn run() {
     ranges();
     limit();
     tolerance();
+    velocity();
 }

@@ -1,5 +1,6 @@
 // Records that a host filled: one at the last point, and some that count as closed for one field.
 use crate::calls::correct;
+use crate::calls::of_position;
 use crate::calls::predict;
 use crate::calls::sample;
 use axis::Axis;
@@ -34,7 +35,7 @@ fn record(state: State, accepted: u64, corrections: u64, x: Axis) -> Session {
     Session {
         state,
         points: 1,
-        tolerance: 0,
+        tolerances: of_position(0),
         limit: 2,
         accepted,
         corrections,

@@ -2,6 +2,8 @@
 use crate::calls::Given;
 use crate::calls::infinity;
 use crate::calls::not_a_number;
+use crate::calls::of_position;
+use crate::calls::of_velocity;
 use crate::calls::on_x;
 use crate::calls::one_point;
 use crate::calls::open;
@@ -10,7 +12,17 @@ use session::closed;
 fn settings(points: usize, tolerance: u64, limit: u64) -> Given {
     Given {
         points,
-        tolerance,
+        tolerances: of_position(tolerance),
+        limit,
+        start: on_x(0, 0),
+    }
+}
+
+// One point, and a tolerance of velocities.
+fn velocity_settings(tolerance: u64, limit: u64) -> Given {
+    Given {
+        points: 1,
+        tolerances: of_velocity(tolerance),
         limit,
         start: on_x(0, 0),
     }
@@ -41,12 +53,18 @@ fn points_and_floats() {
     open(b"open-9-points", closed(), settings(9, 0, 1), &none[..27]);
 }
 
-fn tolerance_and_limit() {
+fn tolerances_and_limit() {
     let none = [0.0f64; 3];
     open(
         b"open-tolerance-1048577",
         closed(),
         settings(1, 1_048_577, 1),
+        &none,
+    );
+    open(
+        b"open-velocity-tolerance-1048577",
+        closed(),
+        velocity_settings(1_048_577, 1),
         &none,
     );
     open(b"open-limit-0", closed(), settings(1, 0, 0), &none);
@@ -55,6 +73,12 @@ fn tolerance_and_limit() {
         b"open-tolerance-1048576-limit-8",
         closed(),
         settings(1, 1_048_576, 8),
+        &none,
+    );
+    open(
+        b"open-velocity-tolerance-1048576",
+        closed(),
+        velocity_settings(1_048_576, 1),
         &none,
     );
 }
@@ -140,7 +164,7 @@ fn samples() {
 
 pub fn run() {
     points_and_floats();
-    tolerance_and_limit();
+    tolerances_and_limit();
     ranges();
     samples();
 }

@@ -1,6 +1,7 @@
 // Sessions of every number of points: two steps of each.
 use crate::calls::Given;
 use crate::calls::correct;
+use crate::calls::of_position;
 use crate::calls::open;
 use crate::calls::predict;
 use crate::calls::sample;
@@ -53,7 +54,7 @@ fn order(p: usize)
 {
     let given = Given {
         points: p,
-        tolerance: 1_048_576,
+        tolerances: of_position(1_048_576),
         limit: 8,
         start: Start {
             x: 1_000_000,

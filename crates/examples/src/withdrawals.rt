@@ -1,6 +1,7 @@
 // Withdraw: each refusal, and a step begun anew.
 use crate::calls::Given;
 use crate::calls::correct;
+use crate::calls::of_position;
 use crate::calls::on_x;
 use crate::calls::open;
 use crate::calls::predict;
@@ -12,7 +13,7 @@ pub fn run() {
     withdraw(b"withdraw-closed", closed());
     let given = Given {
         points: 1,
-        tolerance: 0,
+        tolerances: of_position(0),
         limit: 2,
         start: on_x(1000, 10),
     };

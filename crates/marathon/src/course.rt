@@ -4,6 +4,7 @@ use crate::calls::Host;
 use crate::near::drawn_near;
 use crate::track;
 use crate::track::Track;
+use axis::Tolerances;
 use drawing::Draw;
 use drawing::drawn;
 use drawing::sample_of;
@@ -40,6 +41,14 @@ fn start() -> Start {
     }
 }
 
+// Some first corrections exceed each; that of velocities is the widest there is.
+fn tolerances() -> Tolerances {
+    Tolerances {
+        position: 320_000,
+        velocity: 1_048_576,
+    }
+}
+
 // Nine opening samples of each axis, oldest first.
 fn opening_samples() -> Samples {
     let s = start();
@@ -73,7 +82,7 @@ fn opening_samples() -> Samples {
 pub fn begin() -> Course {
     let samples = opening_samples();
     let floats = samples.floats;
-    let after = stepper::owned::open(session::closed(), 9, 320_000, 2, start(), &floats);
+    let after = stepper::owned::open(session::closed(), 9, tolerances(), 2, start(), &floats);
     let answer = after.answer;
     let session = after.session;
     let seen = match answer {

@@ -1,5 +1,7 @@
 // The steps.
 use crate::sums::with_point;
+use axis::Tolerances;
+use drawing::Draw;
 use session::Session;
 use steps::Correction;
 use steps::Opening;
@@ -27,6 +29,13 @@ fn at_rest() -> Start {
     }
 }
 
+fn widest() -> Tolerances {
+    Tolerances {
+        position: 1_048_576,
+        velocity: 1_048_576,
+    }
+}
+
 fn opened(points: usize) -> Run
     requires { ⌜ points ≤ 9 ⌝ }
 {
@@ -34,7 +43,7 @@ fn opened(points: usize) -> Run
     let after = stepper::owned::open(
         session::closed(),
         points,
-        1_048_576,
+        widest(),
         1,
         at_rest(),
         &zeros[..3 * points],
@@ -99,9 +108,19 @@ fn corrected(r: Run, a: Sample, seed: u64) -> Run {
     }
 }
 
+// An eighth of a draw, rounded down: so little that a first correction moves no velocity past the widest tolerance.
+fn eighth(d: Draw) -> Draw {
+    Draw {
+        seed: d.seed,
+        x: d.x >> 3,
+        y: d.y >> 3,
+        z: d.z >> 3,
+    }
+}
+
 fn step(r: Run) -> Run {
     let awaiting = predicted(r);
-    let d = drawing::drawn(r.seed);
+    let d = eighth(drawing::drawn(r.seed));
     corrected(awaiting, drawing::sample_of(d), d.seed)
 }
 

@@ -11,12 +11,12 @@ use Rattle.rounds.specs.Steps.{startOf, refineOf}
 -- the line's settings, and as many of its floats as it has
 abbrev pub openedBy : OpenCall → AfterOpen
 openedBy call =
-    openOf (call .settings .points) (call .settings .tolerance) (call .settings .limit) (call .settings .start) (take (call .floats .count) (call .floats .values))
+    openOf (call .settings .points) (call .settings .tolerances) (call .settings .limit) (call .settings .start) (take (call .floats .count) (call .floats .values))
 
 -- the same of a first round, and of a later one, which has floats alone
 abbrev pub startedBy : OpenCall → AfterRound
 startedBy call =
-    startOf (call .settings .points) (call .settings .tolerance) (call .settings .limit) (call .settings .start) (take (call .floats .count) (call .floats .values))
+    startOf (call .settings .points) (call .settings .tolerances) (call .settings .limit) (call .settings .start) (take (call .floats .count) (call .floats .values))
 
 abbrev pub refinedBy : Session → Floats → AfterRound
 refinedBy s floats = refineOf s (take (floats .count) (floats .values))

@@ -21,11 +21,12 @@ pub fn open(s: Session, call: OpenCall) -> AfterOpen
     let floats = call.floats;
     let values = floats.values;
     let count = floats.count;
+    let tolerances = settings.tolerances;
     let start = settings.start;
     stepper::owned::open(
         s,
         settings.points,
-        settings.tolerance,
+        tolerances,
         settings.limit,
         start,
         &values[..count],
@@ -58,11 +59,12 @@ pub fn start(s: Session, call: OpenCall) -> AfterRound
     let floats = call.floats;
     let values = floats.values;
     let count = floats.count;
+    let tolerances = settings.tolerances;
     let epoch = settings.start;
     stepper::owned::start(
         s,
         settings.points,
-        settings.tolerance,
+        tolerances,
         settings.limit,
         epoch,
         &values[..count],

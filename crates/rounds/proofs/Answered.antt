@@ -6,12 +6,13 @@ use Prim.Native.Nat.{ℕ, zero, suc}
 use native.Mathlib.Nat.{suc-ne-zero}
 use native.Mathlib.Omega.{arith}
 use lib.Ieee.{Float}
-use Rattle.exact.specs.declared.Reported.{Reported}
+use Rattle.axis.specs.declared.Tolerances.{Tolerances}
 use Rattle.session.specs.declared.Session.{Session}
 use Rattle.starting.specs.declared.Round.{Round}
 use Rattle.starting.specs.Rounds.{roundsAgree, largestMove}
 use Rattle.starting.specs.Records.{heldRound}
 use Rattle.steps.specs.declared.Start.{Start}
+use Rattle.steps.specs.declared.ReportedMotion.{ReportedMotion}
 use Rattle.steps.specs.declared.ReportedPoint.{ReportedPoint}
 use Rattle.steps.specs.Answers.{noChange, reportedChange, unless, NotZero}
 use Rattle.steps.specs.Opening.{wholePoint}
@@ -58,41 +59,41 @@ Numbered (More c) = Unit {0}
 Numbered Opened = Unit {0}
 Numbered (Refused n) = NotZero n
 
-module _ (p tolerance limit : ℕ) (epoch : Start) (floats : List Float) where
+module _ (p : ℕ) (tolerances : Tolerances) (limit : ℕ) (epoch : Start) (floats : List Float) where
   abbrev first-round : Round
   first-round = givenRound p (wholePoint epoch) floats
 
-  pub start-answers : roundAnswer (startOf p tolerance limit epoch floats .answer) ≡ startAnswer p tolerance limit epoch floats
+  pub start-answers : roundAnswer (startOf p tolerances limit epoch floats .answer) ≡ startAnswer p tolerances limit epoch floats
   unfolding startOf
-  start-answers = go (startRefusal p tolerance limit epoch floats)
+  start-answers = go (startRefusal p tolerances limit epoch floats)
     where
-      go : (n : ℕ) → roundAnswer (startBy n tolerance limit (wholePoint epoch) first-round .answer) ≡ values n (unless n 2 0) noChange (unless n (roundPoints first-round) noPoints)
+      go : (n : ℕ) → roundAnswer (startBy n tolerances limit (wholePoint epoch) first-round .answer) ≡ values n (unless n 2 0) noChange (unless n (roundPoints first-round) noPoints)
       go zero = refl
       go (suc n) = refl
 
-  pub start-numbered : Numbered (startOf p tolerance limit epoch floats .answer .outcome)
+  pub start-numbered : Numbered (startOf p tolerances limit epoch floats .answer .outcome)
   unfolding startOf
-  start-numbered = go (startRefusal p tolerance limit epoch floats)
+  start-numbered = go (startRefusal p tolerances limit epoch floats)
     where
-      go : (n : ℕ) → Numbered (startBy n tolerance limit (wholePoint epoch) first-round .answer .outcome)
+      go : (n : ℕ) → Numbered (startBy n tolerances limit (wholePoint epoch) first-round .answer .outcome)
       go zero = tt
       go (suc n) = suc-ne-zero n
 
   -- what is asked for after a first round carries no change
-  pub first-told : (c : Reported) → startOf p tolerance limit epoch floats .answer .outcome ≡ More c → (startRefusal p tolerance limit epoch floats ≡ 0) × (c ≡ noChange)
+  pub first-told : (c : ReportedMotion) → startOf p tolerances limit epoch floats .answer .outcome ≡ More c → (startRefusal p tolerances limit epoch floats ≡ 0) × (c ≡ noChange)
   unfolding startOf
-  first-told c = go (startRefusal p tolerance limit epoch floats) refl
+  first-told c = go (startRefusal p tolerances limit epoch floats) refl
     where
-      go : (n : ℕ) → startRefusal p tolerance limit epoch floats ≡ n → startBy n tolerance limit (wholePoint epoch) first-round .answer .outcome ≡ More c → (startRefusal p tolerance limit epoch floats ≡ 0) × (c ≡ noChange)
+      go : (n : ℕ) → startRefusal p tolerances limit epoch floats ≡ n → startBy n tolerances limit (wholePoint epoch) first-round .answer .outcome ≡ More c → (startRefusal p tolerances limit epoch floats ≡ 0) × (c ≡ noChange)
       go zero e h = (e, cc)
       go (suc n) e h = absurd (clash-of (cc))
 
   -- a first round opens nothing
-  pub first-not-opened : startOf p tolerance limit epoch floats .answer .outcome ≡ Opened → ⊥
+  pub first-not-opened : startOf p tolerances limit epoch floats .answer .outcome ≡ Opened → ⊥
   unfolding startOf
-  first-not-opened = go (startRefusal p tolerance limit epoch floats)
+  first-not-opened = go (startRefusal p tolerances limit epoch floats)
     where
-      go : (n : ℕ) → startBy n tolerance limit (wholePoint epoch) first-round .answer .outcome ≡ Opened → ⊥
+      go : (n : ℕ) → startBy n tolerances limit (wholePoint epoch) first-round .answer .outcome ≡ Opened → ⊥
       go zero h = clash-of (cc)
       go (suc n) h = clash-of (cc)
 
@@ -101,7 +102,7 @@ module _ (s : Session) (floats : List Float) where
   later = laterRound s floats
 
   abbrev agreed : Bool
-  agreed = roundsAgree (s .tolerance) later (heldRound s)
+  agreed = roundsAgree (s .tolerances) later (heldRound s)
 
   pub refine-answers : roundAnswer (refineOf s floats .answer) ≡ refineAnswer s floats
   unfolding refineOf
@@ -141,7 +142,7 @@ module _ (s : Session) (floats : List Float) where
       go zero e h = (e, by agreed refl h)
       go (suc n) e h = absurd (clash-of (cc))
 
-  pub more-told : (c : Reported) → refineOf s floats .answer .outcome ≡ More c → (refineRefusal s floats ≡ 0) × ((agreed ≡ false) × (c ≡ reportedChange (largestMove later (heldRound s))))
+  pub more-told : (c : ReportedMotion) → refineOf s floats .answer .outcome ≡ More c → (refineRefusal s floats ≡ 0) × ((agreed ≡ false) × (c ≡ reportedChange (largestMove later (heldRound s))))
   unfolding refineOf
   more-told c = go (refineRefusal s floats) refl
     where

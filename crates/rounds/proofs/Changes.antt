@@ -1,19 +1,22 @@
--- The change that a later round carries where it asks for more: it is over the tolerance, so it is never zero, and it has a report.
+-- The changes that a later round carries where it asks for more: one is over its tolerance, so they are not all zero, and each has a report.
 use mathlib.Core.Path.{_≡_, refl, sym, ap, _∙_}
 use mathlib.Core.List.{List}
-use Prim.Native.Nat.{ℕ, _*_, _^_, _≤_, _<_}
+use Prim.Native.Nat.{ℕ, _*_, _^_, _≤_}
 use lib.IntN.{pos}
 use lib.Ieee.{Float}
 use Rattle.integers.specs.Parts.{integers}
-use Rattle.exact.specs.declared.Reported.{Reported}
 use Rattle.exact.specs.Numerator.{D, exactOf, numerator}
 use Rattle.exact.specs.Laws.{numerator-exactOf}
+use Rattle.axis.specs.Agreement.{Kind}
 use Rattle.session.specs.declared.Session.{Session}
+use Rattle.session.proofs.Apart.{Over}
 use Rattle.starting.specs.Rounds.{roundOf, largestMove}
 use Rattle.starting.specs.Records.{heldRound}
 use Rattle.starting.proofs.Points.{move-over, move-within}
 use Rattle.starting.proofs.Rules.{keeps-rules}
+use Rattle.steps.specs.declared.ReportedMotion.{ReportedMotion}
 use Rattle.steps.specs.Answers.{reportedChange}
+use Rattle.steps.proofs.Changes.{reportedIn, size-in}
 use Rattle.rounds.specs.declared.Outcome.the-variants.{More}
 use Rattle.rounds.specs.Refusals.{laterRound}
 use Rattle.rounds.specs.Steps.{refineOf}
@@ -23,27 +26,26 @@ use Rattle.rounds.proofs.Refusals.{refine-0}
 use Rattle.rounds.proofs.Opened.{later-points}
 
 module _ (s : Session) (floats : List Float) where
-  abbrev moved : ℕ
+  abbrev moved : Kind → ℕ
   moved = largestMove (laterRound s floats) (heldRound s)
 
   held-points : heldRound s .points ≡ s .points
   unfolding heldRound roundOf
   held-points = refl
 
-  -- its size
-  pub moved-within : Refinable s floats → moved ≤ 2 ^ 53 * D
+  -- their size
+  pub moved-within : Refinable s floats → (kind : Kind) → moved kind ≤ 2 ^ 53 * D
   moved-within r = move-within (laterRound s floats) (heldRound s) (later-points s floats ∙ sym held-points) (r .points-range) (keeps-rules s (r .standing) .points-range)
 
-  module _ (c : Reported) where
-    pub more-over : refineOf s floats .answer .outcome ≡ More c → (c ≡ reportedChange moved) × (s .tolerance * D < moved)
-    more-over h = let (e, (f, g)) = more-told s floats c h in (g, move-over (laterRound s floats) (heldRound s) (s .tolerance) f)
+  module _ (c : ReportedMotion) where
+    pub more-over : refineOf s floats .answer .outcome ≡ More c → (c ≡ reportedChange moved) × Over (s .tolerances) moved
+    more-over h = let (e, (f, g)) = more-told s floats c h in (g, move-over (laterRound s floats) (heldRound s) (s .tolerances) f)
 
-    pub more-not-zero : refineOf s floats .answer .outcome ≡ More c → c .exact ≡ exactOf (pos 0) → ⊥
-    unfolding reportedChange
+    pub more-not-zero : refineOf s floats .answer .outcome ≡ More c → ((kind : Kind) → reportedIn kind c .exact ≡ exactOf (pos 0)) → ⊥
     more-not-zero h z =
-        let (f, l) = more-over h in
-        let g = sym (numerator-exactOf (pos moved)) ∙ ap (λ r. numerator (r .exact)) (sym f) ∙ ap numerator z ∙ numerator-exactOf (pos 0) in
+        let (f, (kind, l)) = more-over h in
+        let g = sym (size-in moved kind f) ∙ ap numerator (z kind) ∙ numerator-exactOf (pos 0) in
         omega integers
 
-    pub more-within : refineOf s floats .answer .outcome ≡ More c → moved ≤ 2 ^ 53 * D
+    pub more-within : refineOf s floats .answer .outcome ≡ More c → (kind : Kind) → moved kind ≤ 2 ^ 53 * D
     more-within h = let (e, (f, g)) = more-told s floats c h in moved-within (refine-0 s floats .0 e)

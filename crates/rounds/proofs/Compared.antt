@@ -73,16 +73,16 @@ comparable s r before t h n i e =
 -- ---- what a later round whose points are in range is answered
 
 module _ (s : Session) (r : Round) (t : roundInRange r ≡ true) where
-  pub later-opens : roundsAgree (s .tolerance) r (heldRound s) ≡ true → refineBy (firstOf (laterRules s r)) s r ≡ record { session = openedRound (s .tolerance) (s .limit) r; answer = told Opened r }
+  pub later-opens : roundsAgree (s .tolerances) r (heldRound s) ≡ true → refineBy (firstOf (laterRules s r)) s r ≡ record { session = openedRound (s .tolerances) (s .limit) r; answer = told Opened r }
   unfolding firstOf
   later-opens a = rw (t, a, a) refl
 
-  pub later-ends : roundsAgree (s .tolerance) r (heldRound s) ≡ false → isLast s ≡ true → refineBy (firstOf (laterRules s r)) s r ≡ record { session = closedSession; answer = refused 8 }
+  pub later-ends : roundsAgree (s .tolerances) r (heldRound s) ≡ false → isLast s ≡ true → refineBy (firstOf (laterRules s r)) s r ≡ record { session = closedSession; answer = refused 8 }
   unfolding firstOf
   later-ends a l = rw (t, a, l) refl
 
-  pub later-asks : roundsAgree (s .tolerance) r (heldRound s) ≡ false → isLast s ≡ false
-      → refineBy (firstOf (laterRules s r)) s r ≡ record { session = startingFrom (s .tolerance) (s .limit) (s .corrections + 1) (estimateOf s) r; answer = told (More (reportedChange (largestMove r (heldRound s)))) r }
+  pub later-asks : roundsAgree (s .tolerances) r (heldRound s) ≡ false → isLast s ≡ false
+      → refineBy (firstOf (laterRules s r)) s r ≡ record { session = startingFrom (s .tolerances) (s .limit) (s .corrections + 1) (estimateOf s) r; answer = told (More (reportedChange (largestMove r (heldRound s)))) r }
   unfolding firstOf
   later-asks a l = rw (t, a, l, a) refl
 

@@ -6,6 +6,7 @@ use Prim.Native.Nat.{ℕ, _<_}
 use lib.IntN.{ℤ}
 use lib.Ieee.{Float}
 use Rattle.earlier.specs.Formulas.{hasCentre}
+use Rattle.axis.specs.declared.Tolerances.{Tolerances}
 use Rattle.axis.specs.Formulas.{places}
 use Rattle.axis.specs.Holding.{placesHold}
 use Rattle.axis.proofs.Places.{places-hold}
@@ -80,21 +81,21 @@ module _ (p : ℕ) (epoch : Point) (floats : List Float) where
   unfolding givenRound
   given-centre = centre-kept p epoch (placed-samples 0) (placed-samples 1) (placed-samples 2)
 
-  module _ (tolerance limit : ℕ) where
-    from-given : (n : ℕ) → startingFrom tolerance limit n epoch given ≡ startingSession p tolerance limit n epoch (placed-samples 0) (placed-samples 1) (placed-samples 2)
+  module _ (tolerances : Tolerances) (limit : ℕ) where
+    from-given : (n : ℕ) → startingFrom tolerances limit n epoch given ≡ startingSession p tolerances limit n epoch (placed-samples 0) (placed-samples 1) (placed-samples 2)
     unfolding givenRound roundOf startedAxis
     from-given n = refl
 
-    pub given-starts : (n : ℕ) → hasCentre p ≡ true → settingsHold tolerance limit ≡ true → n < limit → WholeEpoch epoch → roundInRange given ≡ true → starting (startingFrom tolerance limit n epoch given) ≡ true
+    pub given-starts : (n : ℕ) → hasCentre p ≡ true → settingsHold tolerances limit ≡ true → n < limit → WholeEpoch epoch → roundInRange given ≡ true → starting (startingFrom tolerances limit n epoch given) ≡ true
     unfolding givenRound
     given-starts n h e l q r =
         ap starting (from-given n)
-        ∙ starting-by p tolerance limit n epoch (placed-samples 0) (placed-samples 1) (placed-samples 2) h e l q (placed-hold 0) (placed-hold 1) (placed-hold 2) r
+        ∙ starting-by p tolerances limit n epoch (placed-samples 0) (placed-samples 1) (placed-samples 2) h e l q (placed-hold 0) (placed-hold 1) (placed-hold 2) r
 
-    pub given-settles : hasCentre p ≡ true → settingsHold tolerance limit ≡ true → PlacedPoint epoch → roundInRange given ≡ true → settled (openedRound tolerance limit given) ≡ true
+    pub given-settles : hasCentre p ≡ true → settingsHold tolerances limit ≡ true → PlacedPoint epoch → roundInRange given ≡ true → settled (openedRound tolerances limit given) ≡ true
     unfolding givenRound
     given-settles h e q r =
-        opened-settled p tolerance limit epoch (placed-samples 0) (placed-samples 1) (placed-samples 2) h e q (placed-hold 0) (placed-hold 1) (placed-hold 2) r
+        opened-settled p tolerances limit epoch (placed-samples 0) (placed-samples 1) (placed-samples 2) h e q (placed-hold 0) (placed-hold 1) (placed-hold 2) r
 
 -- ---- the centre of a first round and of a later one
 

@@ -8,6 +8,7 @@ use borrow.Author.Tests.{leb-false, eqb-true, eqb-false, ne-eqb}
 use lib.Dec.{eqb}
 use lib.Ieee.{Float}
 use Rattle.integers.specs.Tests.{_and_}
+use Rattle.axis.specs.declared.Tolerances.{Tolerances}
 use Rattle.session.specs.declared.Session.{Session}
 use Rattle.session.specs.Moves.{estimateOf, closedSession}
 use Rattle.session.specs.Holding.{holds, settled}
@@ -29,28 +30,28 @@ use Rattle.rounds.proofs.Given.{start-whole, held-whole, given-starts, 
 
 -- ---- a first round
 
-module _ (p tolerance limit : ℕ) (epoch : Start) (floats : List Float) where
+module _ (p : ℕ) (tolerances : Tolerances) (limit : ℕ) (epoch : Start) (floats : List Float) where
   abbrev first-round : Round
   first-round = givenRound p (wholePoint epoch) floats
 
-  pub start-closes : NotZero (startRefusal p tolerance limit epoch floats) → startOf p tolerance limit epoch floats .session ≡ closedSession
-  start-closes f = ap (λ a. a .session) (start-refused p tolerance limit epoch floats f)
+  pub start-closes : NotZero (startRefusal p tolerances limit epoch floats) → startOf p tolerances limit epoch floats .session ≡ closedSession
+  start-closes f = ap (λ a. a .session) (start-refused p tolerances limit epoch floats f)
 
-  pub start-began : startRefusal p tolerance limit epoch floats ≡ 0 → startOf p tolerance limit epoch floats .session ≡ startingFrom tolerance limit 0 (wholePoint epoch) first-round
-  start-began e = ap (λ a. a .session) (start-gives p tolerance limit epoch floats e)
+  pub start-began : startRefusal p tolerances limit epoch floats ≡ 0 → startOf p tolerances limit epoch floats .session ≡ startingFrom tolerances limit 0 (wholePoint epoch) first-round
+  start-began e = ap (λ a. a .session) (start-gives p tolerances limit epoch floats e)
 
-  pub start-begins : startRefusal p tolerance limit epoch floats ≡ 0 → starting (startOf p tolerance limit epoch floats .session) ≡ true
+  pub start-begins : startRefusal p tolerances limit epoch floats ≡ 0 → starting (startOf p tolerances limit epoch floats .session) ≡ true
   start-begins e =
-      let o = start-0 p tolerance limit epoch floats .0 e in
+      let o = start-0 p tolerances limit epoch floats .0 e in
       ap starting (start-began e)
-      ∙ given-starts p (wholePoint epoch) floats tolerance limit 0 (o .centred) (o .settings) (settings-hold tolerance limit .0 (o .settings) .1 .0) (start-whole epoch (o .range)) (o .points-range)
+      ∙ given-starts p (wholePoint epoch) floats tolerances limit 0 (o .centred) (o .settings) (settings-hold tolerances limit .0 (o .settings) .1 .0) (start-whole epoch (o .range)) (o .points-range)
 
-  pub start-counts : startRefusal p tolerance limit epoch floats ≡ 0 → startOf p tolerance limit epoch floats .session .corrections ≡ 0
+  pub start-counts : startRefusal p tolerances limit epoch floats ≡ 0 → startOf p tolerances limit epoch floats .session .corrections ≡ 0
   unfolding startingSession
   start-counts e = ap (λ t. t .corrections) (start-began e)
 
-  pub start-leaves : (startOf p tolerance limit epoch floats .session ≡ closedSession) ⊎ (starting (startOf p tolerance limit epoch floats .session) ≡ true)
-  start-leaves = ⊎-elim (λ e. inr (start-begins e)) (λ f. inl (start-closes f)) (zero-or-not (startRefusal p tolerance limit epoch floats))
+  pub start-leaves : (startOf p tolerances limit epoch floats .session ≡ closedSession) ⊎ (starting (startOf p tolerances limit epoch floats .session) ≡ true)
+  start-leaves = ⊎-elim (λ e. inr (start-begins e)) (λ f. inl (start-closes f)) (zero-or-not (startRefusal p tolerances limit epoch floats))
 
 -- ---- a later round
 
@@ -59,7 +60,7 @@ module _ (s : Session) (floats : List Float) where
   later = laterRound s floats
 
   abbrev agreed : Bool
-  agreed = roundsAgree (s .tolerance) later (heldRound s)
+  agreed = roundsAgree (s .tolerances) later (heldRound s)
 
   abbrev after : Session
   after = refineOf s floats .session
@@ -77,7 +78,7 @@ module _ (s : Session) (floats : List Float) where
   refine-closes e = ap (λ n. refineBy n s later .session) e
 
   -- nothing moved beyond the tolerance: settled, at the round's newest point
-  pub refine-opened : refineRefusal s floats ≡ 0 → agreed ≡ true → after ≡ openedRound (s .tolerance) (s .limit) later
+  pub refine-opened : refineRefusal s floats ≡ 0 → agreed ≡ true → after ≡ openedRound (s .tolerances) (s .limit) later
   refine-opened e t = ap (λ a. a .session) (opening-gives s floats e t)
 
   pub refine-settles : refineRefusal s floats ≡ 0 → agreed ≡ true → settled after ≡ true
@@ -86,10 +87,10 @@ module _ (s : Session) (floats : List Float) where
       let r = refine-0 s floats .0 e in
       let h = keeps-rules s (r .standing) in
       ap settled (refine-opened e t)
-      ∙ given-settles (s .points) (estimateOf s) floats (s .tolerance) (s .limit) (h .centred) (h .settings) (starting-round s (r .standing) .epoch) (r .points-range)
+      ∙ given-settles (s .points) (estimateOf s) floats (s .tolerances) (s .limit) (h .centred) (h .settings) (starting-round s (r .standing) .epoch) (r .points-range)
 
   -- something did: starting, with one more later round
-  pub refine-asked : refineRefusal s floats ≡ 0 → agreed ≡ false → after ≡ startingFrom (s .tolerance) (s .limit) (s .corrections + 1) (estimateOf s) later
+  pub refine-asked : refineRefusal s floats ≡ 0 → agreed ≡ false → after ≡ startingFrom (s .tolerances) (s .limit) (s .corrections + 1) (estimateOf s) later
   refine-asked e f = ap (λ a. a .session) (more-gives s floats e f)
 
   not-last : isLast s ≡ false → s .corrections + 1 < s .limit
@@ -103,7 +104,7 @@ module _ (s : Session) (floats : List Float) where
       let h = keeps-rules s (r .standing) in
       let more : isLast s ≡ false = ap (λ t. not t and isLast s) (sym f) ∙ r .more in
       ap starting (refine-asked e f)
-      ∙ given-starts (s .points) (estimateOf s) floats (s .tolerance) (s .limit) (s .corrections + 1) (h .centred) (h .settings) (not-last more) (held-whole s (r .standing)) (r .points-range)
+      ∙ given-starts (s .points) (estimateOf s) floats (s .tolerances) (s .limit) (s .corrections + 1) (h .centred) (h .settings) (not-last more) (held-whole s (r .standing)) (r .points-range)
 
   pub refine-counts : refineRefusal s floats ≡ 0 → agreed ≡ false → after .corrections ≡ s .corrections + 1
   unfolding startingSession

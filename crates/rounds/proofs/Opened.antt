@@ -4,7 +4,6 @@ use mathlib.Core.Bool.{true}
 use mathlib.Core.List.{List}
 use Prim.Native.Nat.{_+_}
 use lib.Ieee.{Float}
-use Rattle.exact.specs.declared.Reported.{Reported}
 use Rattle.session.specs.declared.Session.{Session}
 use Rattle.session.specs.Moves.{presentPoint, estimateOf}
 use Rattle.session.specs.Holding.{settled}
@@ -12,6 +11,7 @@ use Rattle.starting.specs.declared.Round.{Round}
 use Rattle.starting.specs.Rounds.{earlierPoint}
 use Rattle.starting.specs.Records.{starting, openedRound}
 use Rattle.starting.proofs.Kept.{opened-present}
+use Rattle.steps.specs.declared.ReportedMotion.{ReportedMotion}
 use Rattle.rounds.specs.declared.Outcome.the-variants.{More, Opened}
 use Rattle.rounds.specs.Refusals.{laterRound}
 use Rattle.rounds.specs.Steps.{refineOf}
@@ -26,7 +26,7 @@ pub record OpenedAt (s : Session) (r : Round) (t : Session) : Type 0 where
   pub on-y : t .y .samples ≡ r .y .samples
   pub on-z : t .z .samples ≡ r .z .samples
   pub points : t .points ≡ s .points
-  pub tolerance : t .tolerance ≡ s .tolerance
+  pub tolerances : t .tolerances ≡ s .tolerances
   pub limit : t .limit ≡ s .limit
   pub accepted : t .accepted ≡ 0
   pub corrections : t .corrections ≡ 0
@@ -42,16 +42,16 @@ module _ (s : Session) (floats : List Float) where
   unfolding laterRound
   later-points = given-points (s .points) (estimateOf s) floats
 
-  from-opened : after ≡ openedRound (s .tolerance) (s .limit) later → OpenedAt s later after
+  from-opened : after ≡ openedRound (s .tolerances) (s .limit) later → OpenedAt s later after
   unfolding openedRound
   from-opened e =
       record {
-        present = ap presentPoint e ∙ opened-present (s .tolerance) (s .limit) later;
+        present = ap presentPoint e ∙ opened-present (s .tolerances) (s .limit) later;
         on-x = ap (λ t. t .x .samples) e;
         on-y = ap (λ t. t .y .samples) e;
         on-z = ap (λ t. t .z .samples) e;
         points = ap (λ t. t .points) e ∙ later-points;
-        tolerance = ap (λ t. t .tolerance) e;
+        tolerances = ap (λ t. t .tolerances) e;
         limit = ap (λ t. t .limit) e;
         accepted = ap (λ t. t .accepted) e;
         corrections = ap (λ t. t .corrections) e;
@@ -63,5 +63,5 @@ module _ (s : Session) (floats : List Float) where
   pub opened-settled : refineOf s floats .answer .outcome ≡ Opened → settled after ≡ true
   opened-settled h = let (e, t) = opened-told s floats h in refine-settles s floats e t
 
-  pub more-starting : (c : Reported) → refineOf s floats .answer .outcome ≡ More c → (starting after ≡ true) × (after .corrections ≡ s .corrections + 1)
+  pub more-starting : (c : ReportedMotion) → refineOf s floats .answer .outcome ≡ More c → (starting after ≡ true) × (after .corrections ≡ s .corrections + 1)
   more-starting c h = let (e, (f, g)) = more-told s floats c h in (refine-starts s floats e f, refine-counts s floats e f)

@@ -12,6 +12,7 @@ use lib.ListN.{length}
 use Rattle.integers.specs.Tests.{joined, firstOf, FirstIs, first-is, rule-applies, none-passes}
 use Rattle.ticks.specs.declared.Fault.the-variants.{Nothing}
 use Rattle.earlier.specs.Formulas.{hasCentre}
+use Rattle.axis.specs.declared.Tolerances.{Tolerances}
 use Rattle.session.specs.declared.Session.{Session}
 use Rattle.session.specs.Numbers.{pointsHold, settingsHold}
 use Rattle.session.specs.Moves.{pointInRange}
@@ -68,12 +69,12 @@ module _ (a b c d f g k l : Bool) where
 
 -- ---- a first round
 
-module _ (p tolerance limit : ℕ) (epoch : Start) (floats : List Float) where
+module _ (p : ℕ) (tolerances : Tolerances) (limit : ℕ) (epoch : Start) (floats : List Float) where
   abbrev number : ℕ
-  number = startRefusal p tolerance limit epoch floats
+  number = startRefusal p tolerances limit epoch floats
 
   abbrev rules : List (Bool × ℕ)
-  rules = startRules p tolerance limit epoch floats
+  rules = startRules p tolerances limit epoch floats
 
   abbrev points : Bool
   points = pointsHold p
@@ -85,7 +86,7 @@ module _ (p tolerance limit : ℕ) (epoch : Start) (floats : List Float) where
   enough = eqb (length floats) (3 * p)
 
   abbrev settings : Bool
-  settings = settingsHold tolerance limit
+  settings = settingsHold tolerances limit
 
   abbrev range : Bool
   range = pointInRange (wholePoint epoch)
@@ -132,7 +133,7 @@ module _ (p tolerance limit : ℕ) (epoch : Start) (floats : List Float) where
   unfolding startRefusal
   start-5 = simp joined at (rule-applies 5 rules refl)
 
-  pub start-0 : (number ≡ 0) ↔ Startable p tolerance limit epoch floats
+  pub start-0 : (number ≡ 0) ↔ Startable p tolerances limit epoch floats
   unfolding startRefusal
   start-0 =
       let h = simp joined at (none-passes rules refl) in (
@@ -161,7 +162,7 @@ module _ (s : Session) (floats : List Float) where
   in-range = roundInRange (laterRound s floats)
 
   abbrev agreed : Bool
-  agreed = roundsAgree (s .tolerance) (laterRound s floats) (heldRound s)
+  agreed = roundsAgree (s .tolerances) (laterRound s floats) (heldRound s)
 
   pub refine-7 : (refusal ≡ 7) ↔ (starting s ≡ false)
   unfolding refineRefusal

@@ -2,9 +2,9 @@
 use Prim.Native.Nat.{ℕ, zero, suc, _-_}
 use mathlib.Core.List.{List, [], _∷_, _++_}
 use lib.ListN.{replicate}
-use Rattle.exact.specs.declared.Reported.{Reported}
 use Rattle.starting.specs.declared.Round.{Round}
 use Rattle.starting.specs.Rounds.{earlierPoint}
+use Rattle.steps.specs.declared.ReportedMotion.{ReportedMotion}
 use Rattle.steps.specs.declared.ReportedPoint.{ReportedPoint}
 use Rattle.steps.specs.Answers.{reportedPoint, noPoint, noChange}
 use Rattle.rounds.specs.declared.Outcome.{Outcome}
@@ -31,10 +31,10 @@ noPoints = replicate 9 noPoint
 pub record RoundValues : Type 0 where
   pub number : ℕ
   pub kind : ℕ
-  pub change : Reported
+  pub change : ReportedMotion
   pub points : List ReportedPoint
 
-abbrev pub values : ℕ → ℕ → Reported → List ReportedPoint → RoundValues
+abbrev pub values : ℕ → ℕ → ReportedMotion → List ReportedPoint → RoundValues
 values number kind change points = record { number = number; kind = kind; change = change; points = points }
 
 abbrev pub outcomeValues : Outcome → List ReportedPoint → RoundValues

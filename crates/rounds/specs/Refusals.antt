@@ -8,6 +8,7 @@ use lib.ListN.{length}
 use Rattle.integers.specs.Tests.{_and_, firstOf}
 use Rattle.earlier.specs.Formulas.{hasCentre}
 use Rattle.axis.specs.Formulas.{places}
+use Rattle.axis.specs.declared.Tolerances.{Tolerances}
 use Rattle.session.specs.declared.Point.{Point}
 use Rattle.session.specs.declared.Session.{Session}
 use Rattle.session.specs.Numbers.{pointsHold, settingsHold}
@@ -26,17 +27,21 @@ givenRound p epoch floats =
 
 -- ---- a first round: as open, with 10 for a p that has no centre, and 6 for a point that was worked out at the end
 
-abbrev pub startRules : ℕ → ℕ → ℕ → Start → List Float → List (Bool × ℕ)
-startRules p tolerance limit epoch floats =
+-- its samples, and the points that they give
+abbrev pub firstRules : ℕ → Point → List Float → List (Bool × ℕ)
+firstRules p epoch floats = sampleRules floats ++ (not (roundInRange (givenRound p epoch floats)), 6) ∷ []
+
+abbrev pub startRules : ℕ → Tolerances → ℕ → Start → List Float → List (Bool × ℕ)
+startRules p tolerances limit epoch floats =
     (not (pointsHold p), 1)
     ∷ (not (hasCentre p), 10)
     ∷ (not (eqb (length floats) (3 * p)), 2)
-    ∷ (not (settingsHold tolerance limit), 3)
+    ∷ (not (settingsHold tolerances limit), 3)
     ∷ (not (pointInRange (wholePoint epoch)), 6)
-    ∷ (sampleRules floats ++ (not (roundInRange (givenRound p (wholePoint epoch) floats)), 6) ∷ [])
+    ∷ firstRules p (wholePoint epoch) floats
 
-unfoldable pub startRefusal : ℕ → ℕ → ℕ → Start → List Float → ℕ
-startRefusal p tolerance limit epoch floats = firstOf (startRules p tolerance limit epoch floats)
+unfoldable pub startRefusal : ℕ → Tolerances → ℕ → Start → List Float → ℕ
+startRefusal p tolerances limit epoch floats = firstOf (startRules p tolerances limit epoch floats)
 
 -- ---- a later round: its epoch is the record's, and it is compared with the round that the record holds
 
@@ -46,7 +51,7 @@ laterRound s floats = givenRound (s .points) (estimateOf s) floats
 abbrev pub laterRules : Session → Round → List (Bool × ℕ)
 laterRules s r =
     (not (roundInRange r), 6)
-    ∷ (not (roundsAgree (s .tolerance) r (heldRound s)) and isLast s, 8)
+    ∷ (not (roundsAgree (s .tolerances) r (heldRound s)) and isLast s, 8)
     ∷ []
 
 abbrev pub refineRules : Session → List Float → List (Bool × ℕ)

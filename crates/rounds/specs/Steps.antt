@@ -4,6 +4,7 @@ use mathlib.Core.Bool.{Bool, true, false, cond}
 use mathlib.Core.List.{List}
 use lib.Dec.{eqb}
 use lib.Ieee.{Float}
+use Rattle.axis.specs.declared.Tolerances.{Tolerances}
 use Rattle.session.specs.declared.Point.{Point}
 use Rattle.session.specs.declared.Session.{Session}
 use Rattle.session.specs.Moves.{estimateOf, closedSession}
@@ -27,33 +28,33 @@ abbrev pub refused : ℕ → RoundAnswer
 refused n = record { outcome = Refused n; points = noPoints }
 
 -- starting from a round, after so many later ones
-abbrev pub startingFrom : ℕ → ℕ → ℕ → Point → Round → Session
-startingFrom tolerance limit rounds epoch r = startingSession (r .points) tolerance limit rounds epoch (r .x .samples) (r .y .samples) (r .z .samples)
+abbrev pub startingFrom : Tolerances → ℕ → ℕ → Point → Round → Session
+startingFrom tolerances limit rounds epoch r = startingSession (r .points) tolerances limit rounds epoch (r .x .samples) (r .y .samples) (r .z .samples)
 
 -- ---- a first round: whatever the record held before; it always asks for more, and was compared with nothing
 
-abbrev pub startBy : ℕ → ℕ → ℕ → Point → Round → AfterRound
-startBy zero tolerance limit epoch r = record { session = startingFrom tolerance limit 0 epoch r; answer = told (More noChange) r }
-startBy (suc n) tolerance limit epoch r = record { session = closedSession; answer = refused (suc n) }
+abbrev pub startBy : ℕ → Tolerances → ℕ → Point → Round → AfterRound
+startBy zero tolerances limit epoch r = record { session = startingFrom tolerances limit 0 epoch r; answer = told (More noChange) r }
+startBy (suc n) tolerances limit epoch r = record { session = closedSession; answer = refused (suc n) }
 
-unfoldable pub startOf : ℕ → ℕ → ℕ → Start → List Float → AfterRound
-startOf p tolerance limit epoch floats =
-    startBy (startRefusal p tolerance limit epoch floats) tolerance limit (wholePoint epoch) (givenRound p (wholePoint epoch) floats)
+unfoldable pub startOf : ℕ → Tolerances → ℕ → Start → List Float → AfterRound
+startOf p tolerances limit epoch floats =
+    startBy (startRefusal p tolerances limit epoch floats) tolerances limit (wholePoint epoch) (givenRound p (wholePoint epoch) floats)
 
 -- ---- a later round
 
--- nothing moved beyond the tolerance, and the session opens, or something did, and more is asked for
+-- nothing moved beyond its tolerance, and the session opens, or something did, and more is asked for
 abbrev pub judgedRound : Bool → Session → Round → AfterRound
-judgedRound true s r = record { session = openedRound (s .tolerance) (s .limit) r; answer = told Opened r }
+judgedRound true s r = record { session = openedRound (s .tolerances) (s .limit) r; answer = told Opened r }
 judgedRound false s r =
     record {
-      session = startingFrom (s .tolerance) (s .limit) (s .corrections + 1) (estimateOf s) r;
+      session = startingFrom (s .tolerances) (s .limit) (s .corrections + 1) (estimateOf s) r;
       answer = told (More (reportedChange (largestMove r (heldRound s)))) r;
     }
 
 -- 8 closes the record; every other refusal leaves it as it was
 abbrev pub refineBy : ℕ → Session → Round → AfterRound
-refineBy zero s r = judgedRound (roundsAgree (s .tolerance) r (heldRound s)) s r
+refineBy zero s r = judgedRound (roundsAgree (s .tolerances) r (heldRound s)) s r
 refineBy (suc n) s r = record { session = cond (eqb (suc n) 8) closedSession s; answer = refused (suc n) }
 
 unfoldable pub refineOf : Session → List Float → AfterRound
@@ -61,15 +62,15 @@ refineOf s floats = refineBy (refineRefusal s floats) s (laterRound s floats)
 
 -- ---- what each call answers, in the paper's shape
 
-abbrev pub startAnswer : ℕ → ℕ → ℕ → Start → List Float → RoundValues
-startAnswer p tolerance limit epoch floats =
-    let n = startRefusal p tolerance limit epoch floats in
+abbrev pub startAnswer : ℕ → Tolerances → ℕ → Start → List Float → RoundValues
+startAnswer p tolerances limit epoch floats =
+    let n = startRefusal p tolerances limit epoch floats in
     values n (unless n 2 0) noChange (unless n (roundPoints (givenRound p (wholePoint epoch) floats)) noPoints)
 
 -- kind 3 without a change, or 2 with one
 abbrev pub refineAnswerBy : ℕ → Session → Round → RoundValues
 refineAnswerBy n s r =
-    let agreed = roundsAgree (s .tolerance) r (heldRound s) in
+    let agreed = roundsAgree (s .tolerances) r (heldRound s) in
     values n
     (unless n (cond agreed 3 2) 0)
     (unless n (cond agreed noChange (reportedChange (largestMove r (heldRound s)))) noChange)

@@ -9,6 +9,7 @@ use Rattle.integers.specs.Tests.{_and_}
 use Rattle.ticks.specs.declared.Fault.the-variants.{Nothing}
 use Rattle.ticks.specs.Samples.{faultIn}
 use Rattle.earlier.specs.Formulas.{hasCentre}
+use Rattle.axis.specs.declared.Tolerances.{Tolerances}
 use Rattle.session.specs.declared.Session.{Session}
 use Rattle.session.specs.Numbers.{pointsHold, settingsHold}
 use Rattle.session.specs.Moves.{pointInRange}
@@ -19,11 +20,11 @@ use Rattle.steps.specs.Opening.{wholePoint}
 use Rattle.steps.specs.Refusals.{isLast}
 use Rattle.rounds.specs.Refusals.{givenRound, laterRound}
 
-pub record Startable (p tolerance limit : ℕ) (epoch : Start) (floats : List Float) : Type 0 where
+pub record Startable (p : ℕ) (tolerances : Tolerances) (limit : ℕ) (epoch : Start) (floats : List Float) : Type 0 where
   pub points : pointsHold p ≡ true
   pub centred : hasCentre p ≡ true
   pub enough : length floats ≡ 3 * p
-  pub settings : settingsHold tolerance limit ≡ true
+  pub settings : settingsHold tolerances limit ≡ true
   pub range : pointInRange (wholePoint epoch) ≡ true
   pub faultless : faultIn floats ≡ Nothing
   pub points-range : roundInRange (givenRound p (wholePoint epoch) floats) ≡ true
@@ -33,4 +34,4 @@ pub record Refinable (s : Session) (floats : List Float) : Type 0 where
   pub enough : length floats ≡ 3 * s .points
   pub faultless : faultIn floats ≡ Nothing
   pub points-range : roundInRange (laterRound s floats) ≡ true
-  pub more : (not (roundsAgree (s .tolerance) (laterRound s floats) (heldRound s)) and isLast s) ≡ false
+  pub more : (not (roundsAgree (s .tolerances) (laterRound s floats) (heldRound s)) and isLast s) ≡ false

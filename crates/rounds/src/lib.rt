@@ -1,6 +1,6 @@
 // A start from an epoch by value: a first round and later ones. Each gives the record that it leaves, beside the answer.
-use exact::Reported;
 use session::Session;
+use steps::ReportedMotion;
 use steps::ReportedPoint;
 
 mod answers;
@@ -10,9 +10,9 @@ mod starts;
 pub use refines::refine_step;
 pub use starts::start_step;
 
-// More is asked for, with the largest change; the session is open; or a refusal's number.
+// More is asked for, with the largest change of each kind; the session is open; or a refusal's number.
 pub enum Outcome {
-    More(Reported),
+    More(ReportedMotion),
     Opened,
     Refused(u8),
 }

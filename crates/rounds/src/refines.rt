@@ -17,6 +17,7 @@ use starting::round_in_range;
 use starting::rounds_agree;
 use starting::start_at;
 use steps::fault_number;
+use steps::report_motion;
 ghost use mathlib.Core.Path.{_≡_};
 ghost use mathlib.Core.Bool.{true};
 ghost use Prim.Native.Nat.{_*_};
@@ -44,14 +45,14 @@ fn refuse_refine(s: Session, number: u8) -> AfterRound
 
 // The record that asks for more, after so many later rounds.
 fn ask_more(s: Session, made: u64, r: Round) -> Session
-    ensures { λ t. ⌜ t ≡ startingSession (s .points) (s .tolerance) (s .limit) made (estimateOf s) (r .x .samples) (r .y .samples) (r .z .samples) ⌝ }
+    ensures { λ t. ⌜ t ≡ startingSession (s .points) (s .tolerances) (s .limit) made (estimateOf s) (r .x .samples) (r .y .samples) (r .z .samples) ⌝ }
 {
     let xs = r.x.samples;
     let ys = r.y.samples;
     let zs = r.z.samples;
     start_at(
         s.points,
-        s.tolerance,
+        s.tolerances,
         s.limit,
         made,
         estimate_of(s),
@@ -71,8 +72,8 @@ fn judge_round(s: Session, r: Round) -> AfterRound
 {
     let before = held_round(s);
     let points = round_points(r);
-    if rounds_agree(s.tolerance, r, before) {
-        let session = open_round(s.tolerance, s.limit, r);
+    if rounds_agree(s.tolerances, r, before) {
+        let session = open_round(s.tolerances, s.limit, r);
         let answer = RoundAnswer {
             outcome: Outcome::Opened,
             points,
@@ -83,7 +84,7 @@ fn judge_round(s: Session, r: Round) -> AfterRound
     if s.limit <= made {
         return refuse_refine(closed(), 8);
     }
-    let change = largest_move(r, before).reported();
+    let change = report_motion(largest_move(r, before));
     let session = ask_more(s, made, r);
     let answer = RoundAnswer {
         outcome: Outcome::More(change),

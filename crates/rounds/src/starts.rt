@@ -5,8 +5,9 @@ use crate::RoundAnswer;
 use crate::answers::given_round;
 use crate::answers::no_points;
 use crate::answers::round_points;
+use axis::Tolerances;
+use axis::no_motion;
 use earlier::has_centre;
-use exact::Exact;
 use session::Point;
 use session::closed;
 use session::point_in_range;
@@ -17,14 +18,19 @@ use starting::round_in_range;
 use starting::start_at;
 use steps::Start;
 use steps::fault_number;
+use steps::report_motion;
 use steps::start_point;
 ghost use mathlib.Core.Path.{_≡_};
 ghost use mathlib.Core.Bool.{true};
 ghost use Prim.Native.Nat.{_*_};
 ghost use lib.ListN.{length};
+ghost use Rattle.integers.specs.Tests.{firstOf};
+ghost use Rattle.earlier.specs.Formulas.{hasCentre};
 ghost use Rattle.starting.specs.Rounds.{roundInRange};
 ghost use Rattle.starting.specs.Ready.{ReadyRound};
 ghost use Rattle.session.specs.Moves.{closedSession};
+ghost use Rattle.session.specs.Ready.{PlacedPoint};
+ghost use Rattle.rounds.specs.Refusals.{givenRound, firstRules};
 ghost use Rattle.rounds.specs.Steps.{refused, startBy, startOf};
 
 fn refuse_start(number: u8) -> AfterRound
@@ -40,17 +46,17 @@ fn refuse_start(number: u8) -> AfterRound
 }
 
 // A first round whose points are in range.
-fn begin(tolerance: u64, limit: u64, epoch: Point, r: Round) -> AfterRound
+fn begin(tolerances: Tolerances, limit: u64, epoch: Point, r: Round) -> AfterRound
     requires { ⌜ ReadyRound r ⌝ }
     requires { ⌜ roundInRange r ≡ true ⌝ }
-    ensures { λ a. ⌜ a ≡ startBy 0 tolerance limit epoch r ⌝ }
+    ensures { λ a. ⌜ a ≡ startBy 0 tolerances limit epoch r ⌝ }
 {
     let xs = r.x.samples;
     let ys = r.y.samples;
     let zs = r.z.samples;
-    let session = start_at(r.points, tolerance, limit, 0, epoch, xs, ys, zs);
+    let session = start_at(r.points, tolerances, limit, 0, epoch, xs, ys, zs);
     let points = round_points(r);
-    let change = Exact::ZERO.reported();
+    let change = report_motion(no_motion());
     let answer = RoundAnswer {
         outcome: Outcome::More(change),
         points,
@@ -58,14 +64,38 @@ fn begin(tolerance: u64, limit: u64, epoch: Point, r: Round) -> AfterRound
     AfterRound { session, answer }
 }
 
+// A first round at an epoch in range, with as many floats as it needs: the samples, and the points that they give.
+fn start_with(
+    points: usize,
+    tolerances: Tolerances,
+    limit: u64,
+    epoch: Point,
+    floats: &[f64],
+) -> AfterRound
+    requires { ⌜ hasCentre points ≡ true ⌝ }
+    requires { ⌜ PlacedPoint epoch ⌝ }
+    requires { ⌜ length (now floats) ≡ 3 * points ⌝ }
+    ensures { λ a. ⌜ a ≡ startBy (firstOf (firstRules points epoch (now (floats .entry)))) tolerances limit epoch (givenRound points epoch (now (floats .entry))) ⌝ }
+{
+    let number = fault_number(ticks::fault_in(floats));
+    if number != 0 {
+        return refuse_start(number);
+    }
+    let r = given_round(points, epoch, floats);
+    if !round_in_range(r) {
+        return refuse_start(6);
+    }
+    begin(tolerances, limit, epoch, r)
+}
+
 pub fn start_step(
     points: usize,
-    tolerance: u64,
+    tolerances: Tolerances,
     limit: u64,
     epoch: Start,
     floats: &[f64],
 ) -> AfterRound
-    ensures { λ r. ⌜ r ≡ startOf points tolerance limit epoch (now (floats .entry)) ⌝ }
+    ensures { λ r. ⌜ r ≡ startOf points tolerances limit epoch (now (floats .entry)) ⌝ }
 {
     if !points_hold(points) {
         return refuse_start(1);
@@ -76,20 +106,12 @@ pub fn start_step(
     if floats.len() != 3 * points {
         return refuse_start(2);
     }
-    if !settings_hold(tolerance, limit) {
+    if !settings_hold(tolerances, limit) {
         return refuse_start(3);
     }
     let q = start_point(epoch);
     if !point_in_range(q) {
         return refuse_start(6);
     }
-    let number = fault_number(ticks::fault_in(floats));
-    if number != 0 {
-        return refuse_start(number);
-    }
-    let r = given_round(points, q, floats);
-    if !round_in_range(r) {
-        return refuse_start(6);
-    }
-    begin(tolerance, limit, q, r)
+    start_with(points, tolerances, limit, q, floats)
 }

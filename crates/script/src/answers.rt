@@ -1,6 +1,5 @@
 // The answers of the calls other than rounds in one shape: a number, a kind, a point and a change, zeros where an answer carries nothing.
 use exact::Exact;
-use exact::Reported;
 use steps::Correction;
 use steps::Opening;
 use steps::Prediction;
@@ -12,17 +11,13 @@ pub struct Answer {
     pub number: u8,
     pub kind: u8,
     pub point: ReportedPoint,
-    pub change: Reported,
+    pub change: ReportedMotion,
 }
 
-// The change of an answer that carries none.
-pub fn no_change() -> Reported {
-    Exact::ZERO.reported()
-}
-
-fn no_motion() -> ReportedMotion {
-    let position = no_change();
-    let velocity = no_change();
+// A motion of an answer that carries none: one of its point, or its change.
+pub fn no_motion() -> ReportedMotion {
+    let position = Exact::ZERO.reported();
+    let velocity = Exact::ZERO.reported();
     ReportedMotion { position, velocity }
 }
 
@@ -36,7 +31,7 @@ fn no_point() -> ReportedPoint {
 // A number, and zero in every other field.
 fn bare(number: u8) -> Answer {
     let point = no_point();
-    let change = no_change();
+    let change = no_motion();
     Answer {
         number,
         kind: 0,
@@ -46,7 +41,7 @@ fn bare(number: u8) -> Answer {
 }
 
 fn with_point(kind: u8, point: ReportedPoint) -> Answer {
-    let change = no_change();
+    let change = no_motion();
     Answer {
         number: 0,
         kind,

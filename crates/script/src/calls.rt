@@ -3,8 +3,10 @@ use crate::floats::float_of;
 use crate::pieces::ReadSession;
 use crate::pieces::read_session;
 use crate::pieces::read_three;
+use crate::pieces::read_tolerances;
 use crate::words::bits_word;
 use crate::words::natural_word;
+use axis::Tolerances;
 use steps::Start;
 use ticks::Sample;
 
@@ -28,7 +30,7 @@ pub struct Floats {
 // What an opening has before its floats.
 pub struct Settings {
     pub points: usize,
-    pub tolerance: u64,
+    pub tolerances: Tolerances,
     pub limit: u64,
     pub start: Start,
     pub end: usize,
@@ -91,13 +93,14 @@ pub fn name_of(line: &[u8]) -> Name {
 
 fn read_settings(line: &[u8], at: usize) -> Settings {
     let points = natural_word(line, at);
-    let tolerance = natural_word(line, points.end);
-    let limit = natural_word(line, tolerance.end);
+    let read = read_tolerances(line, points.end);
+    let limit = natural_word(line, read.end);
     let p = read_three(line, limit.end);
     let v = read_three(line, p.end);
+    let tolerances = read.value;
     Settings {
         points: points.value as usize,
-        tolerance: tolerance.value,
+        tolerances,
         limit: limit.value,
         start: Start {
             x: p.a,

@@ -29,6 +29,14 @@ pub fn put_natural(out: &mut [u8], at: usize, n: u64) -> usize
     put_decimal(out, next, n)
 }
 
+fn put_two(out: &mut [u8], at: usize, m: u64, n: u64) -> usize
+    requires { ⌜ at + 42 ≤ length (now out) ⌝ }
+    ensures { λ r. ⌜ Within (now (out .entry)) at 42 (now (out .exit)) r ⌝ }
+{
+    let next = put_natural(out, at, m);
+    put_natural(out, next, n)
+}
+
 fn put_exact(out: &mut [u8], at: usize, e: Exact) -> usize
     requires { ⌜ at + 42 ≤ length (now out) ⌝ }
     ensures { λ r. ⌜ Within (now (out .entry)) at 42 (now (out .exit)) r ⌝ }
@@ -38,7 +46,7 @@ fn put_exact(out: &mut [u8], at: usize, e: Exact) -> usize
     put_natural(out, b, e.part as u64)
 }
 
-pub fn put_reported(out: &mut [u8], at: usize, r: Reported) -> usize
+fn put_reported(out: &mut [u8], at: usize, r: Reported) -> usize
     requires { ⌜ at + 59 ≤ length (now out) ⌝ }
     ensures { λ end. ⌜ Within (now (out .entry)) at 59 (now (out .exit)) end ⌝ }
 {
@@ -50,7 +58,7 @@ pub fn put_reported(out: &mut [u8], at: usize, r: Reported) -> usize
 
 // ---- an answer
 
-fn put_motion_reported(out: &mut [u8], at: usize, m: ReportedMotion) -> usize
+pub fn put_motion_reported(out: &mut [u8], at: usize, m: ReportedMotion) -> usize
     requires { ⌜ at + 118 ≤ length (now out) ⌝ }
     ensures { λ r. ⌜ Within (now (out .entry)) at 118 (now (out .exit)) r ⌝ }
 {
@@ -73,22 +81,22 @@ pub fn put_point(out: &mut [u8], at: usize, q: ReportedPoint) -> usize
 }
 
 fn put_values(out: &mut [u8], at: usize, answer: Answer) -> usize
-    requires { ⌜ at + 455 ≤ length (now out) ⌝ }
-    ensures { λ r. ⌜ Within (now (out .entry)) at 455 (now (out .exit)) r ⌝ }
+    requires { ⌜ at + 514 ≤ length (now out) ⌝ }
+    ensures { λ r. ⌜ Within (now (out .entry)) at 514 (now (out .exit)) r ⌝ }
 {
     let point = answer.point;
     let change = answer.change;
     let a = put_natural(out, at, answer.number as u64);
     let b = put_natural(out, a, answer.kind as u64);
     let c = put_point(out, b, point);
-    put_reported(out, c, change)
+    put_motion_reported(out, c, change)
 }
 
 // The call's name, and what was answered.
 pub fn put_answer(out: &mut [u8], at: usize, call: &[u8], answer: Answer) -> usize
     requires { ⌜ length (now call) ≤ 8 ⌝ }
-    requires { ⌜ at + 464 ≤ length (now out) ⌝ }
-    ensures { λ r. ⌜ Within (now (out .entry)) at 464 (now (out .exit)) r ⌝ }
+    requires { ⌜ at + 523 ≤ length (now out) ⌝ }
+    ensures { λ r. ⌜ Within (now (out .entry)) at 523 (now (out .exit)) r ⌝ }
 {
     let a = put_word(out, at, call);
     let b = put_values(out, a, answer);
@@ -138,22 +146,15 @@ fn number_of(s: State) -> u64 {
 }
 
 fn put_settings(out: &mut [u8], at: usize, s: Session) -> usize
-    requires { ⌜ at + 84 ≤ length (now out) ⌝ }
-    ensures { λ r. ⌜ Within (now (out .entry)) at 84 (now (out .exit)) r ⌝ }
+    requires { ⌜ at + 105 ≤ length (now out) ⌝ }
+    ensures { λ r. ⌜ Within (now (out .entry)) at 105 (now (out .exit)) r ⌝ }
 {
     let state = s.state;
+    let tolerances = s.tolerances;
     let a = put_natural(out, at, number_of(state));
     let b = put_natural(out, a, s.points as u64);
-    let c = put_natural(out, b, s.tolerance);
+    let c = put_two(out, b, tolerances.position, tolerances.velocity);
     put_natural(out, c, s.limit)
-}
-
-fn put_counts(out: &mut [u8], at: usize, s: Session) -> usize
-    requires { ⌜ at + 42 ≤ length (now out) ⌝ }
-    ensures { λ r. ⌜ Within (now (out .entry)) at 42 (now (out .exit)) r ⌝ }
-{
-    let a = put_natural(out, at, s.accepted);
-    put_natural(out, a, s.corrections)
 }
 
 fn put_axes(out: &mut [u8], at: usize, s: Session) -> usize
@@ -169,12 +170,12 @@ fn put_axes(out: &mut [u8], at: usize, s: Session) -> usize
 }
 
 pub fn put_record(out: &mut [u8], at: usize, s: Session) -> usize
-    requires { ⌜ at + 1204 ≤ length (now out) ⌝ }
-    ensures { λ r. ⌜ Within (now (out .entry)) at 1204 (now (out .exit)) r ⌝ }
+    requires { ⌜ at + 1225 ≤ length (now out) ⌝ }
+    ensures { λ r. ⌜ Within (now (out .entry)) at 1225 (now (out .exit)) r ⌝ }
 {
     let a = put_word(out, at, b"record");
     let b = put_settings(out, a, s);
-    let c = put_counts(out, b, s);
+    let c = put_two(out, b, s.accepted, s.corrections);
     let d = put_axes(out, c, s);
     put(out, d, b'\n')
 }

@@ -4,6 +4,7 @@ use crate::words::natural_word;
 use crate::words::small_word;
 use axis::Axis;
 use axis::Motion;
+use axis::Tolerances;
 use exact::Exact;
 use session::Session;
 use session::State;
@@ -35,11 +36,16 @@ pub struct ReadAxis {
     pub end: usize,
 }
 
+pub struct ReadTolerances {
+    pub value: Tolerances,
+    pub end: usize,
+}
+
 // The fields of a record before its axes.
 pub struct Head {
     pub state: State,
     pub points: usize,
-    pub tolerance: u64,
+    pub tolerances: Tolerances,
     pub limit: u64,
     pub accepted: u64,
     pub corrections: u64,
@@ -132,17 +138,30 @@ fn state_of(n: u64) -> State {
     State::Starting
 }
 
+pub fn read_tolerances(line: &[u8], at: usize) -> ReadTolerances {
+    let position = natural_word(line, at);
+    let velocity = natural_word(line, position.end);
+    ReadTolerances {
+        value: Tolerances {
+            position: position.value,
+            velocity: velocity.value,
+        },
+        end: velocity.end,
+    }
+}
+
 fn read_head(line: &[u8], at: usize) -> Head {
     let state = small_word(line, at, 4);
     let points = natural_word(line, state.end);
-    let tolerance = natural_word(line, points.end);
-    let limit = natural_word(line, tolerance.end);
+    let read = read_tolerances(line, points.end);
+    let limit = natural_word(line, read.end);
     let accepted = natural_word(line, limit.end);
     let corrections = natural_word(line, accepted.end);
+    let tolerances = read.value;
     Head {
         state: state_of(state.value),
         points: points.value as usize,
-        tolerance: tolerance.value,
+        tolerances,
         limit: limit.value,
         accepted: accepted.value,
         corrections: corrections.value,
@@ -159,11 +178,12 @@ pub fn read_session(line: &[u8], at: usize) -> ReadSession {
     let axis_y = y.axis;
     let axis_z = z.axis;
     let state = head.state;
+    let tolerances = head.tolerances;
     ReadSession {
         session: Session {
             state,
             points: head.points,
-            tolerance: head.tolerance,
+            tolerances,
             limit: head.limit,
             accepted: head.accepted,
             corrections: head.corrections,

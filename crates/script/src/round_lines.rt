@@ -1,11 +1,11 @@
 // The answer of a round as a line, written into a lent buffer at a place. Each function answers the place past what it wrote.
-use crate::answers::no_change;
+use crate::answers::no_motion;
+use crate::lines::put_motion_reported;
 use crate::lines::put_natural;
 use crate::lines::put_point;
-use crate::lines::put_reported;
-use exact::Reported;
 use rounds::Outcome;
 use rounds::RoundAnswer;
+use steps::ReportedMotion;
 use steps::ReportedPoint;
 use text::put;
 use text::put_word;
@@ -17,11 +17,11 @@ ghost use Rattle.script.specs.Rooms.{Within};
 struct Summary {
     number: u64,
     kind: u64,
-    change: Reported,
+    change: ReportedMotion,
 }
 
 fn summary_of(outcome: Outcome) -> Summary {
-    let none = no_change();
+    let none = no_motion();
     match outcome {
         Outcome::More(change) => Summary {
             number: 0,
@@ -42,13 +42,13 @@ fn summary_of(outcome: Outcome) -> Summary {
 }
 
 fn put_summary(out: &mut [u8], at: usize, summary: Summary) -> usize
-    requires { ⌜ at + 101 ≤ length (now out) ⌝ }
-    ensures { λ r. ⌜ Within (now (out .entry)) at 101 (now (out .exit)) r ⌝ }
+    requires { ⌜ at + 160 ≤ length (now out) ⌝ }
+    ensures { λ r. ⌜ Within (now (out .entry)) at 160 (now (out .exit)) r ⌝ }
 {
     let change = summary.change;
     let a = put_natural(out, at, summary.number);
     let b = put_natural(out, a, summary.kind);
-    put_reported(out, b, change)
+    put_motion_reported(out, b, change)
 }
 
 // Three of the nine points.
@@ -79,8 +79,8 @@ fn put_nine(out: &mut [u8], at: usize, points: [ReportedPoint; 9]) -> usize
 // The call's name, and what was answered.
 pub fn put_round(out: &mut [u8], at: usize, call: &[u8], answer: RoundAnswer) -> usize
     requires { ⌜ length (now call) ≤ 8 ⌝ }
-    requires { ⌜ at + 3296 ≤ length (now out) ⌝ }
-    ensures { λ r. ⌜ Within (now (out .entry)) at 3296 (now (out .exit)) r ⌝ }
+    requires { ⌜ at + 3355 ≤ length (now out) ⌝ }
+    ensures { λ r. ⌜ Within (now (out .entry)) at 3355 (now (out .exit)) r ⌝ }
 {
     let outcome = answer.outcome;
     let points = answer.points;

@@ -11,6 +11,7 @@ use Rattle.ticks.specs.declared.WholeSample.{WholeSample}
 use Rattle.ticks.specs.Samples.{WithinLimit}
 use Rattle.coefficients.specs.Formulas.{Small}
 use Rattle.axis.specs.declared.Axis.{Axis}
+use Rattle.axis.specs.declared.Tolerances.{Tolerances}
 use Rattle.axis.specs.Formulas.{motionOf, still, places, emptyAxis, advancedAxis, openedAxis}
 use Rattle.axis.specs.Estimates.{inRange}
 use Rattle.axis.specs.Ready.{Placed}
@@ -70,7 +71,7 @@ settled-same s t =
     λ i. record {
       state = sym (r .state) i;
       points = s .points;
-      tolerance = s .tolerance;
+      tolerances = s .tolerances;
       limit = s .limit;
       accepted = s .accepted;
       corrections = sym (r .corrections) i;
@@ -121,7 +122,7 @@ accepted-holds s w t l r =
     let (x, (y, z)) = axes-in-range (correctedPoint s w) .0 r in
     settled-by (acceptedAt s w)
     (record {
-      counts = counts-hold (acceptedAt s w) (record { points = c .points; tolerance = c .tolerance; limit = c .limit; accepted = omega (arith, expecting s t .accepted) });
+      counts = counts-hold (acceptedAt s w) (record { points = c .points; tolerances = c .tolerances; limit = c .limit; accepted = omega (arith, expecting s t .accepted) });
       on-x = advanced-holds (s .points) (c .points .1) (s .x) (w .x) (h .on-x) (l .on-x) x;
       on-y = advanced-holds (s .points) (c .points .1) (s .y) (w .y) (h .on-y) (l .on-y) y;
       on-z = advanced-holds (s .points) (c .points .1) (s .z) (w .z) (h .on-z) (l .on-z) z;
@@ -130,15 +131,15 @@ accepted-holds s w t l r =
 
 -- ---- opened
 
-pub opened-session-holds : (p tolerance limit : ℕ) (q : Point) (xs ys zs : List ℤ) → pointsHold p ≡ true → settingsHold tolerance limit ≡ true → PlacedPoint q → Small xs → Small ys → Small zs
-    → settled (openedSession p tolerance limit q (places p xs) (places p ys) (places p zs)) ≡ true
+pub opened-session-holds : (p : ℕ) (tolerances : Tolerances) (limit : ℕ) (q : Point) (xs ys zs : List ℤ) → pointsHold p ≡ true → settingsHold tolerances limit ≡ true → PlacedPoint q → Small xs → Small ys → Small zs
+    → settled (openedSession p tolerances limit q (places p xs) (places p ys) (places p zs)) ≡ true
 unfolding openedSession estimateOf nowhere openedAxis
-opened-session-holds p tolerance limit q xs ys zs a b r sx sy sz =
-    let s = openedSession p tolerance limit q (places p xs) (places p ys) (places p zs) in
-    let (t, l) = settings-hold tolerance limit .0 b in
+opened-session-holds p tolerances limit q xs ys zs a b r sx sy sz =
+    let s = openedSession p tolerances limit q (places p xs) (places p ys) (places p zs) in
+    let (t, l) = settings-hold tolerances limit .0 b in
     settled-by s
     (record {
-      counts = counts-hold s (record { points = points-hold p .0 a; tolerance = t; limit = l; accepted = omega arith });
+      counts = counts-hold s (record { points = points-hold p .0 a; tolerances = t; limit = l; accepted = omega arith });
       on-x = opened-holds p (q .x) (places p xs) (r .on-x) (places-hold p xs sx);
       on-y = opened-holds p (q .y) (places p ys) (r .on-y) (places-hold p ys sy);
       on-z = opened-holds p (q .z) (places p zs) (r .on-z) (places-hold p zs sz);
@@ -160,6 +161,6 @@ zeros =
       estimate = record { position = wholly (pos 0); velocity = wholly (pos 0) };
     }
 
-pub closed-is-zero : closedSession ≡ record { state = Closed; points = 0; tolerance = 0; limit = 0; accepted = 0; corrections = 0; x = zeros; y = zeros; z = zeros }
+pub closed-is-zero : closedSession ≡ record { state = Closed; points = 0; tolerances = record { position = 0; velocity = 0 }; limit = 0; accepted = 0; corrections = 0; x = zeros; y = zeros; z = zeros }
 unfolding closedSession emptyAxis still motionOf exactOf
 closed-is-zero = refl

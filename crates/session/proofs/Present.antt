@@ -4,6 +4,7 @@ use mathlib.Core.List.{List}
 use Prim.Native.Nat.{ℕ, _≤_}
 use lib.IntN.{ℤ}
 use Rattle.ticks.specs.declared.WholeSample.{WholeSample}
+use Rattle.axis.specs.declared.Tolerances.{Tolerances}
 use Rattle.axis.specs.Formulas.{presentMotion, predictedMotion}
 use Rattle.session.specs.declared.Point.{Point}
 use Rattle.session.specs.declared.Session.{Session}
@@ -22,9 +23,9 @@ present-accepted s w h =
       z = A.present-advanced (s .points) h (s .z) (w .z) i;
     }
 
-pub present-opened : (p tolerance limit : ℕ) (q : Point) (xs ys zs : List ℤ) → PlacedPoint q → presentPoint (openedSession p tolerance limit q xs ys zs) ≡ q
+pub present-opened : (p : ℕ) (tolerances : Tolerances) (limit : ℕ) (q : Point) (xs ys zs : List ℤ) → PlacedPoint q → presentPoint (openedSession p tolerances limit q xs ys zs) ≡ q
 unfolding presentPoint openedSession
-present-opened p tolerance limit q xs ys zs h =
+present-opened p tolerances limit q xs ys zs h =
     λ i. record {
       x = A.present-opened p (q .x) xs (h .on-x .position .small) (h .on-x .velocity .small) i;
       y = A.present-opened p (q .y) ys (h .on-y .position .small) (h .on-y .velocity .small) i;

@@ -7,7 +7,9 @@ use native.Mathlib.Omega.{arith}
 use borrow.Author.Tests.{leb-true, le-leb, ltb-true, lt-ltb, eqb-true, eq-eqb}
 use lib.Dec.{eqb}
 use Rattle.integers.specs.Tests.{_and_, agree, joined}
+use Rattle.axis.specs.declared.Tolerances.{Tolerances}
 use Rattle.axis.specs.Estimates.{inRange}
+use Rattle.axis.specs.Ready.{Tolerable}
 use Rattle.axis.specs.Holding.{axisHolds}
 use Rattle.session.specs.declared.Point.{Point}
 use Rattle.session.specs.declared.Session.{Session}
@@ -29,11 +31,13 @@ points-hold p = (
   (λ h. simp joined (le-leb 1 p (h .0), le-leb p 9 (h .1))),
 )
 
-pub settings-hold : (tolerance limit : ℕ) → (settingsHold tolerance limit ≡ true) ↔ ((tolerance ≤ 1048576) × ((1 ≤ limit) × (limit ≤ 8)))
+pub settings-hold : (t : Tolerances) (limit : ℕ) → (settingsHold t limit ≡ true) ↔ (Tolerable t × ((1 ≤ limit) × (limit ≤ 8)))
 unfolding settingsHold
-settings-hold tolerance limit = (
-  (λ h. let (a, (b, c)) = simp joined at h in (leb-true tolerance 1048576 a, (leb-true 1 limit b, leb-true limit 8 c))),
-  (λ h. simp joined (le-leb tolerance 1048576 (h .0), (le-leb 1 limit (h .1 .0), le-leb limit 8 (h .1 .1)))),
+settings-hold t limit = (
+  (λ h.
+      let (p, (v, (b, c))) = simp joined at h in
+      (record { position = leb-true (t .position) 1048576 p; velocity = leb-true (t .velocity) 1048576 v }, (leb-true 1 limit b, leb-true limit 8 c))),
+  (λ h. simp joined (le-leb (t .position) 1048576 (h .0 .position), (le-leb (t .velocity) 1048576 (h .0 .velocity), (le-leb 1 limit (h .1 .0), le-leb limit 8 (h .1 .1))))),
 )
 
 -- ---- points
@@ -105,7 +109,7 @@ as-tested s =
 
 pub record Counts (s : Session) : Type 0 where
   pub points : (1 ≤ s .points) × (s .points ≤ 9)
-  pub tolerance : s .tolerance ≤ 1048576
+  pub tolerances : Tolerable (s .tolerances)
   pub limit : (1 ≤ s .limit) × (s .limit ≤ 8)
   pub accepted : s .accepted ≤ mostPoints
 
@@ -113,13 +117,13 @@ pub counts-are : (s : Session) → countsHold s ≡ true → Counts s
 unfolding countsHold
 counts-are s h =
     let (p, (e, a)) = simp joined at h in
-    let (t, l) = settings-hold (s .tolerance) (s .limit) .0 e in
-    record { points = points-hold (s .points) .0 p; tolerance = t; limit = l; accepted = leb-true (s .accepted) mostPoints a }
+    let (t, l) = settings-hold (s .tolerances) (s .limit) .0 e in
+    record { points = points-hold (s .points) .0 p; tolerances = t; limit = l; accepted = leb-true (s .accepted) mostPoints a }
 
 pub counts-hold : (s : Session) → Counts s → countsHold s ≡ true
 unfolding countsHold
 counts-hold s c =
-    simp joined (points-hold (s .points) .1 (c .points), (settings-hold (s .tolerance) (s .limit) .1 (c .tolerance, c .limit), le-leb (s .accepted) mostPoints (c .accepted)))
+    simp joined (points-hold (s .points) .1 (c .points), (settings-hold (s .tolerances) (s .limit) .1 (c .tolerances, c .limit), le-leb (s .accepted) mostPoints (c .accepted)))
 
 -- ---- the arithmetic is safe
 
@@ -217,7 +221,7 @@ waiting s t =
       on-x = estimate-placed (s .points) (s .x) (h .on-x);
       on-y = estimate-placed (s .points) (s .y) (h .on-y);
       on-z = estimate-placed (s .points) (s .z) (h .on-z);
-      tolerance = c .tolerance;
+      tolerances = c .tolerances;
       accepted = r .accepted;
       corrections = omega (arith, c .limit .1, r .corrections);
     }

@@ -15,9 +15,9 @@ use Rattle.session.specs.Moves.{nowhere, presentPoint, estimateOf, predi
 abbrev pub everyAxis : Session → (Axis → Bool) → Bool
 everyAxis s test = test (s .x) and test (s .y) and test (s .z)
 
--- p, the tolerance, the limit and the accepted points keep to their numbers
+-- p, the tolerances, the limit and the accepted points keep to their numbers
 unfoldable pub countsHold : Session → Bool
-countsHold s = pointsHold (s .points) and settingsHold (s .tolerance) (s .limit) and leb (s .accepted) mostPoints
+countsHold s = pointsHold (s .points) and settingsHold (s .tolerances) (s .limit) and leb (s .accepted) mostPoints
 
 -- all six values are the same
 unfoldable pub samePoint : Point → Point → Bool

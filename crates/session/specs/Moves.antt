@@ -6,6 +6,7 @@ use lib.IntN.{ℤ}
 use Rattle.integers.specs.Tests.{_and_}
 use Rattle.ticks.specs.declared.WholeSample.{WholeSample}
 use Rattle.axis.specs.declared.Axis.{Axis}
+use Rattle.axis.specs.declared.Tolerances.{Tolerances}
 use Rattle.axis.specs.Formulas.{still, presentMotion, predictedMotion, correctedMotion, advancedAxis, openedAxis, emptyAxis}
 use Rattle.axis.specs.Estimates.{estimating, inRange}
 use Rattle.session.specs.declared.Point.{Point}
@@ -60,7 +61,7 @@ became s state accepted corrections x y z =
     record {
       state = state;
       points = s .points;
-      tolerance = s .tolerance;
+      tolerances = s .tolerances;
       limit = s .limit;
       accepted = accepted;
       corrections = corrections;
@@ -87,12 +88,12 @@ acceptedAt s w =
     (advancedAxis (s .points) (s .z) (w .z))
 
 -- settled at point 0, with the samples of each axis, newest first
-unfoldable pub openedSession : ℕ → ℕ → ℕ → Point → List ℤ → List ℤ → List ℤ → Session
-openedSession p tolerance limit q xs ys zs =
+unfoldable pub openedSession : ℕ → Tolerances → ℕ → Point → List ℤ → List ℤ → List ℤ → Session
+openedSession p tolerances limit q xs ys zs =
     record {
       state = Settled;
       points = p;
-      tolerance = tolerance;
+      tolerances = tolerances;
       limit = limit;
       accepted = 0;
       corrections = 0;
@@ -104,4 +105,14 @@ openedSession p tolerance limit q xs ys zs =
 -- closed, and zero in every field: what is new, or what an open that was refused leaves
 unfoldable pub closedSession : Session
 closedSession =
-    record { state = Closed; points = 0; tolerance = 0; limit = 0; accepted = 0; corrections = 0; x = emptyAxis; y = emptyAxis; z = emptyAxis }
+    record {
+      state = Closed;
+      points = 0;
+      tolerances = record { position = 0; velocity = 0 };
+      limit = 0;
+      accepted = 0;
+      corrections = 0;
+      x = emptyAxis;
+      y = emptyAxis;
+      z = emptyAxis;
+    }

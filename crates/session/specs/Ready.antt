@@ -1,6 +1,6 @@
 -- What the arithmetic of a record asks, so that nothing leaves its type. A record that holds has it.
-use Prim.Native.Nat.{_≤_, _<_}
-use Rattle.axis.specs.Ready.{Ready, Placed}
+use Prim.Native.Nat.{_<_}
+use Rattle.axis.specs.Ready.{Ready, Placed, Tolerable}
 use Rattle.session.specs.declared.Point.{Point}
 use Rattle.session.specs.declared.Session.{Session}
 use Rattle.session.specs.Numbers.{mostPoints}
@@ -22,6 +22,6 @@ pub record Waiting (s : Session) : Type 0 where
   pub on-x : Placed (s .x .estimate)
   pub on-y : Placed (s .y .estimate)
   pub on-z : Placed (s .z .estimate)
-  pub tolerance : s .tolerance ≤ 1048576
+  pub tolerances : Tolerable (s .tolerances)
   pub accepted : s .accepted < mostPoints
   pub corrections : s .corrections < 8

@@ -19,7 +19,7 @@ fn counts_hold(s: Session) -> bool
     if !points_hold(s.points) {
         return false;
     }
-    if !settings_hold(s.tolerance, s.limit) {
+    if !settings_hold(s.tolerances, s.limit) {
         return false;
     }
     s.accepted <= 1_000_000

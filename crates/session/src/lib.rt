@@ -1,6 +1,7 @@
 // The record of a session: when it counts as open, and what the calls make of it.
 use axis::Axis;
 use axis::Motion;
+use axis::Tolerances;
 
 mod holding;
 mod moves;
@@ -34,7 +35,7 @@ pub enum State {
 pub struct Session {
     pub state: State,
     pub points: usize,
-    pub tolerance: u64,
+    pub tolerances: Tolerances,
     pub limit: u64,
     pub accepted: u64,
     pub corrections: u64,

@@ -2,6 +2,7 @@
 use crate::Point;
 use crate::Session;
 use crate::State;
+use axis::Tolerances;
 use axis::advanced_axis;
 use axis::corrected_motion;
 use axis::empty_axis;
@@ -67,10 +68,11 @@ pub fn settle(s: Session) -> Session
     let x = with_estimate(s.x, none);
     let y = with_estimate(s.y, none);
     let z = with_estimate(s.z, none);
+    let tolerances = s.tolerances;
     Session {
         state: State::Settled,
         points: s.points,
-        tolerance: s.tolerance,
+        tolerances,
         limit: s.limit,
         accepted: s.accepted,
         corrections: 0,
@@ -87,10 +89,11 @@ pub fn await_at(s: Session, corrections: u64, q: Point) -> Session
     let x = with_estimate(s.x, q.x);
     let y = with_estimate(s.y, q.y);
     let z = with_estimate(s.z, q.z);
+    let tolerances = s.tolerances;
     Session {
         state: State::Awaiting,
         points: s.points,
-        tolerance: s.tolerance,
+        tolerances,
         limit: s.limit,
         accepted: s.accepted,
         corrections,
@@ -109,10 +112,11 @@ pub fn accept(s: Session, w: WholeSample) -> Session
     let x = advanced_axis(s.points, s.x, w.x);
     let y = advanced_axis(s.points, s.y, w.y);
     let z = advanced_axis(s.points, s.z, w.z);
+    let tolerances = s.tolerances;
     Session {
         state: State::Settled,
         points: s.points,
-        tolerance: s.tolerance,
+        tolerances,
         limit: s.limit,
         accepted: s.accepted + 1,
         corrections: 0,
@@ -125,7 +129,7 @@ pub fn accept(s: Session, w: WholeSample) -> Session
 // Settled at point 0. The samples of each axis are newest first.
 pub fn open_at(
     points: usize,
-    tolerance: u64,
+    tolerances: Tolerances,
     limit: u64,
     q: Point,
     xs: [i64; 9],
@@ -137,7 +141,7 @@ pub fn open_at(
     requires { ⌜ Small xs ⌝ }
     requires { ⌜ Small ys ⌝ }
     requires { ⌜ Small zs ⌝ }
-    ensures { λ r. ⌜ r ≡ openedSession points tolerance limit q xs ys zs ⌝ }
+    ensures { λ r. ⌜ r ≡ openedSession points tolerances limit q xs ys zs ⌝ }
 {
     let x = opened_axis(points, q.x, xs);
     let y = opened_axis(points, q.y, ys);
@@ -145,7 +149,7 @@ pub fn open_at(
     Session {
         state: State::Settled,
         points,
-        tolerance,
+        tolerances,
         limit,
         accepted: 0,
         corrections: 0,
@@ -163,7 +167,10 @@ pub fn closed() -> Session
     Session {
         state: State::Closed,
         points: 0,
-        tolerance: 0,
+        tolerances: Tolerances {
+            position: 0,
+            velocity: 0,
+        },
         limit: 0,
         accepted: 0,
         corrections: 0,

@@ -1,13 +1,14 @@
 // Points: whether one is in range, and how far two are apart.
 use crate::Point;
+use axis::Motion;
+use axis::Tolerances;
 use axis::agrees_on;
 use axis::change;
 use axis::in_range;
-use exact::Exact;
+use axis::larger_change;
 ghost use mathlib.Core.Path.{_≡_};
-ghost use Prim.Native.Nat.{_≤_};
-ghost use lib.IntN.{pos};
-ghost use Rattle.exact.specs.Numerator.{exactOf};
+ghost use Rattle.axis.specs.Agreement.{sizes};
+ghost use Rattle.axis.specs.Ready.{Tolerable};
 ghost use Rattle.session.specs.Moves.{pointInRange};
 ghost use Rattle.session.specs.Apart.{pointsAgree, pointChange};
 ghost use Rattle.session.specs.Ready.{PlacedPoint};
@@ -24,30 +25,30 @@ pub fn point_in_range(q: Point) -> bool
     in_range(q.z)
 }
 
-// Whether no position moved by more than the tolerance.
-pub fn points_agree(tolerance: u64, q: Point, before: Point) -> bool
-    requires { ⌜ tolerance ≤ 1048576 ⌝ }
+// Whether on every axis the position and the velocity moved by no more than their tolerances.
+pub fn points_agree(tolerances: Tolerances, q: Point, before: Point) -> bool
+    requires { ⌜ Tolerable tolerances ⌝ }
     requires { ⌜ PlacedPoint q ⌝ }
     requires { ⌜ PlacedPoint before ⌝ }
-    ensures { λ r. ⌜ r ≡ pointsAgree tolerance q before ⌝ }
+    ensures { λ r. ⌜ r ≡ pointsAgree tolerances q before ⌝ }
 {
-    if !agrees_on(tolerance, q.x, before.x) {
+    if !agrees_on(tolerances, q.x, before.x) {
         return false;
     }
-    if !agrees_on(tolerance, q.y, before.y) {
+    if !agrees_on(tolerances, q.y, before.y) {
         return false;
     }
-    agrees_on(tolerance, q.z, before.z)
+    agrees_on(tolerances, q.z, before.z)
 }
 
-// By how much a position moved at most.
-pub fn point_change(q: Point, before: Point) -> Exact
+// By how much a position moved at most, and a velocity.
+pub fn point_change(q: Point, before: Point) -> Motion
     requires { ⌜ PlacedPoint q ⌝ }
     requires { ⌜ PlacedPoint before ⌝ }
-    ensures { λ r. ⌜ r ≡ exactOf (pos (pointChange q before)) ⌝ }
+    ensures { λ r. ⌜ r ≡ sizes (pointChange q before) ⌝ }
 {
     let x = change(q.x, before.x);
     let y = change(q.y, before.y);
     let z = change(q.z, before.z);
-    x.larger(y.larger(z))
+    larger_change(x, larger_change(y, z))
 }

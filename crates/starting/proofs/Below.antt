@@ -27,18 +27,22 @@ module _ (test : ℕ → Bool) where
   unfolding everyBelow
   every-more n e f = simp joined (e, f)
 
-one-over : (a b : Bool) {m x y : ℕ} → (a ≡ false → m < x) → (b ≡ false → m < y) → (a and b) ≡ false → m < max x y
-one-over true b f g e = omega (arith, g e)
-one-over false b f g e = omega (arith, f refl)
+pub largest-within : (f : ℕ → ℕ) (m n : ℕ) → ((j : ℕ) → j < n → f j ≤ m) → largestBelow n f ≤ m
+unfolding largestBelow
+largest-within f m zero h = zero-le
+largest-within f m (suc n) h = omega (arith, largest-within f m n (λ j l. h j (omega arith)), h n (omega arith))
 
-module _ (f : ℕ → ℕ) where
-  pub largest-within : (m n : ℕ) → ((j : ℕ) → j < n → f j ≤ m) → largestBelow n f ≤ m
-  unfolding largestBelow
-  largest-within m zero h = zero-le
-  largest-within m (suc n) h = omega (arith, largest-within m n (λ j l. h j (omega arith)), h n (omega arith))
+-- values of several kinds, with a bound for each
+module _ {K : Type 0} (m : K → ℕ) where
+  abbrev Above : (K → ℕ) → Type 0
+  Above x = (k : K) × (m k < x k)
 
-  -- where a test fails only at values over m
-  pub largest-over : (m : ℕ) (test : ℕ → Bool) → ((j : ℕ) → test j ≡ false → m < f j) → (n : ℕ) → everyBelow n test ≡ false → m < largestBelow n f
+  one-over : (a b : Bool) {x y : K → ℕ} → (a ≡ false → Above x) → (b ≡ false → Above y) → (a and b) ≡ false → Above (λ k. max (x k) (y k))
+  one-over true b f g e = let (k, h) = g e in (k, omega (arith, h))
+  one-over false b f g e = let (k, h) = f refl in (k, omega (arith, h))
+
+  -- where a test fails only at values of which one is over its bound
+  pub largest-over : (f : ℕ → K → ℕ) (test : ℕ → Bool) → ((j : ℕ) → test j ≡ false → Above (f j)) → (n : ℕ) → everyBelow n test ≡ false → Above (λ k. largestBelow n (λ j. f j k))
   unfolding largestBelow everyBelow
-  largest-over m test h zero e = clash refl e
-  largest-over m test h (suc n) e = one-over (everyBelow n test) (test n) (largest-over m test h n) (h n) e
+  largest-over f test h zero e = clash refl e
+  largest-over f test h (suc n) e = one-over (everyBelow n test) (test n) (largest-over f test h n) (h n) e

@@ -12,13 +12,13 @@ use Rattle.exact.specs.Laws.{same-refl}
 use Rattle.earlier.specs.Formulas.{hasCentre}
 use Rattle.earlier.proofs.Centre.{at-least-3, at-most-9}
 use Rattle.axis.specs.declared.Motion.{Motion}
+use Rattle.axis.specs.declared.Tolerances.{Tolerances}
 use Rattle.axis.specs.Estimates.{inRange}
 use Rattle.axis.specs.Holding.{placesHold}
 use Rattle.epochs.specs.Formulas.{startedAxis}
 use Rattle.epochs.proofs.Kept.{newest}
 use Rattle.epochs.proofs.Started.{started-holds}
 use Rattle.session.specs.declared.Point.{Point}
-use Rattle.session.specs.declared.Session.{Session}
 use Rattle.session.specs.Numbers.{settingsHold}
 use Rattle.session.specs.Moves.{nowhere, presentPoint, estimateOf, pointInRange}
 use Rattle.session.specs.Holding.{settled}
@@ -46,16 +46,16 @@ axis-starts : (p : ℕ) (m : Motion) (xs : List ℤ) → placesHold p xs ≡ tru
 unfolding axisStarts startingAxis sumsZero
 axis-starts p m xs x e = simp joined ((same-refl (exactOf (pos 0)), same-refl (exactOf (pos 0))), (x, e))
 
-module _ (p tolerance limit rounds : ℕ) (epoch : Point) (xs ys zs : List ℤ) where
-  pub held-starting : heldRound (startingSession p tolerance limit rounds epoch xs ys zs) ≡ roundOf p epoch xs ys zs
+module _ (p : ℕ) (tolerances : Tolerances) (limit rounds : ℕ) (epoch : Point) (xs ys zs : List ℤ) where
+  pub held-starting : heldRound (startingSession p tolerances limit rounds epoch xs ys zs) ≡ roundOf p epoch xs ys zs
   unfolding heldRound startingSession startingAxis estimateOf
   held-starting = refl
 
-  pub starting-by : hasCentre p ≡ true → settingsHold tolerance limit ≡ true → rounds < limit → WholeEpoch epoch → placesHold p xs ≡ true → placesHold p ys ≡ true → placesHold p zs ≡ true
-      → roundInRange (roundOf p epoch xs ys zs) ≡ true → starting (startingSession p tolerance limit rounds epoch xs ys zs) ≡ true
+  pub starting-by : hasCentre p ≡ true → settingsHold tolerances limit ≡ true → rounds < limit → WholeEpoch epoch → placesHold p xs ≡ true → placesHold p ys ≡ true → placesHold p zs ≡ true
+      → roundInRange (roundOf p epoch xs ys zs) ≡ true → starting (startingSession p tolerances limit rounds epoch xs ys zs) ≡ true
   unfolding startingSession
   starting-by h e n q x y z r =
-      by-rules (startingSession p tolerance limit rounds epoch xs ys zs)
+      by-rules (startingSession p tolerances limit rounds epoch xs ys zs)
       (record {
         state = refl;
         centred = h;
@@ -70,13 +70,13 @@ module _ (p tolerance limit rounds : ℕ) (epoch : Point) (xs ys zs : List ℤ) 
 
 -- ---- opened
 
-module _ (tolerance limit : ℕ) (r : Round) where
+module _ (tolerances : Tolerances) (limit : ℕ) (r : Round) where
   -- at the newest point, with the round's samples
-  pub opened-present : presentPoint (openedRound tolerance limit r) ≡ earlierPoint r 0
+  pub opened-present : presentPoint (openedRound tolerances limit r) ≡ earlierPoint r 0
   unfolding presentPoint openedRound earlierPoint
   opened-present = λ i. record { x = sym (newest (r .points) (r .x)) i; y = sym (newest (r .points) (r .y)) i; z = sym (newest (r .points) (r .z)) i }
 
-  pub opened-samples : let s = openedRound tolerance limit r in (s .x .samples ≡ r .x .samples) × ((s .y .samples ≡ r .y .samples) × (s .z .samples ≡ r .z .samples))
+  pub opened-samples : let s = openedRound tolerances limit r in (s .x .samples ≡ r .x .samples) × ((s .y .samples ≡ r .y .samples) × (s .z .samples ≡ r .z .samples))
   unfolding openedRound
   opened-samples = (refl, (refl, refl))
 
@@ -84,18 +84,18 @@ newest-in-range : (r : Round) → hasCentre (r .points) ≡ true → roundInRang
 unfolding roundInRange
 newest-in-range r h t = every-at (λ j. pointInRange (earlierPoint r j)) (r .points) 0 (omega (arith, at-least-3 h)) t
 
-module _ (p tolerance limit : ℕ) (epoch : Point) (xs ys zs : List ℤ) where
-  pub opened-settled : hasCentre p ≡ true → settingsHold tolerance limit ≡ true → PlacedPoint epoch → placesHold p xs ≡ true → placesHold p ys ≡ true → placesHold p zs ≡ true
-      → roundInRange (roundOf p epoch xs ys zs) ≡ true → settled (openedRound tolerance limit (roundOf p epoch xs ys zs)) ≡ true
+module _ (p : ℕ) (tolerances : Tolerances) (limit : ℕ) (epoch : Point) (xs ys zs : List ℤ) where
+  pub opened-settled : hasCentre p ≡ true → settingsHold tolerances limit ≡ true → PlacedPoint epoch → placesHold p xs ≡ true → placesHold p ys ≡ true → placesHold p zs ≡ true
+      → roundInRange (roundOf p epoch xs ys zs) ≡ true → settled (openedRound tolerances limit (roundOf p epoch xs ys zs)) ≡ true
   unfolding openedRound roundOf earlierPoint estimateOf nowhere startedAxis
   opened-settled h e q x y z t =
       let r = roundOf p epoch xs ys zs in
-      let s = openedRound tolerance limit r in
-      let (m, l) = settings-hold tolerance limit .0 e in
+      let s = openedRound tolerances limit r in
+      let (m, l) = settings-hold tolerances limit .0 e in
       let (rx, (ry, rz)) = axes-in-range (earlierPoint r 0) .0 (newest-in-range r h t) in
       settled-by s
       (record {
-        counts = counts-hold s (record { points = (omega (arith, at-least-3 h), at-most-9 h); tolerance = m; limit = l; accepted = omega arith });
+        counts = counts-hold s (record { points = (omega (arith, at-least-3 h), at-most-9 h); tolerances = m; limit = l; accepted = omega arith });
         on-x = started-holds p (epoch .x) xs h (q .on-x) x rx;
         on-y = started-holds p (epoch .y) ys h (q .on-y) y ry;
         on-z = started-holds p (epoch .z) zs h (q .on-z) z rz;

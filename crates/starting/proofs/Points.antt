@@ -1,16 +1,18 @@
--- What a round gives: its centre is the epoch. Rounds that do not agree have moved by more than the tolerance, and no round moves far.
+-- What a round gives: its centre is the epoch. Rounds that do not agree have a change over its tolerance, and no round moves far.
 use mathlib.Core.Path.{_≡_, subst}
 use mathlib.Core.Bool.{true, false}
 use mathlib.Core.List.{List}
 use Prim.Native.Nat.{ℕ, _*_, _^_, _≤_, _<_}
 use lib.IntN.{ℤ}
 use Rattle.exact.specs.Numerator.{D}
+use Rattle.axis.specs.declared.Tolerances.{Tolerances}
+use Rattle.axis.specs.Agreement.{Kind, toleranceOf}
 use Rattle.epochs.specs.Formulas.{centre}
 use Rattle.epochs.proofs.Kept.{epoch-kept}
 use Rattle.session.specs.declared.Point.{Point}
 use Rattle.session.specs.Apart.{pointsAgree, pointChange}
 use Rattle.session.specs.Ready.{PlacedPoint}
-use Rattle.session.proofs.Apart.{apart-over, apart-within}
+use Rattle.session.proofs.Apart.{Over, apart-over, apart-within}
 use Rattle.starting.specs.declared.Round.{Round}
 use Rattle.starting.specs.Rounds.{roundOf, earlierPoint, roundInRange, roundsAgree, largestMove}
 use Rattle.starting.proofs.Below.{largest-within, largest-over}
@@ -25,14 +27,14 @@ centre-kept p epoch xs ys zs q = λ i. record {
 }
 
 module _ (r before : Round) where
-  pub move-over : (tolerance : ℕ) → roundsAgree tolerance r before ≡ false → tolerance * D < largestMove r before
+  pub move-over : (t : Tolerances) → roundsAgree t r before ≡ false → Over t (largestMove r before)
   unfolding roundsAgree largestMove
-  move-over tolerance =
-      largest-over (λ j. pointChange (earlierPoint r j) (earlierPoint before j)) (tolerance * D) (λ j. pointsAgree tolerance (earlierPoint r j) (earlierPoint before j))
-      (λ j. apart-over tolerance (earlierPoint r j) (earlierPoint before j)) (r .points)
+  move-over t =
+      largest-over (λ kind. toleranceOf kind t * D) (λ j. pointChange (earlierPoint r j) (earlierPoint before j)) (λ j. pointsAgree t (earlierPoint r j) (earlierPoint before j))
+      (λ j. apart-over t (earlierPoint r j) (earlierPoint before j)) (r .points)
 
-  pub move-within : r .points ≡ before .points → roundInRange r ≡ true → roundInRange before ≡ true → largestMove r before ≤ 2 ^ 53 * D
+  pub move-within : r .points ≡ before .points → roundInRange r ≡ true → roundInRange before ≡ true → (kind : Kind) → largestMove r before kind ≤ 2 ^ 53 * D
   unfolding largestMove
-  move-within e t u =
-      largest-within (λ j. pointChange (earlierPoint r j) (earlierPoint before j)) (2 ^ 53 * D) (r .points)
-      (λ j l. apart-within (earlierPoint r j) (earlierPoint before j) (round-placed r t j l) (round-placed before u j (subst (λ n. j < n) e l)))
+  move-within e t u kind =
+      largest-within (λ j. pointChange (earlierPoint r j) (earlierPoint before j) kind) (2 ^ 53 * D) (r .points)
+      (λ j l. apart-within (earlierPoint r j) (earlierPoint before j) (round-placed r t j l) (round-placed before u j (subst (λ n. j < n) e l)) kind)

@@ -20,7 +20,7 @@ use Rattle.starting.proofs.Ready.{axis-starting, holds-round}
 pub record KeepsRules (s : Session) : Type 0 where
   pub state : s .state ≡ Starting
   pub centred : hasCentre (s .points) ≡ true
-  pub settings : settingsHold (s .tolerance) (s .limit) ≡ true
+  pub settings : settingsHold (s .tolerances) (s .limit) ≡ true
   pub accepted : s .accepted ≡ 0
   pub rounds : s .corrections < s .limit
   pub on-x : axisStarts (s .points) (s .x) ≡ true
@@ -69,14 +69,14 @@ axis-is a t =
     let (f, g) = simp joined at t in
     λ i. record { first = same-true (a .first) _ f i; second = same-true (a .second) _ g i; samples = a .samples; estimate = a .estimate }
 
-pub starting-is : (s : Session) → starting s ≡ true → s ≡ startingSession (s .points) (s .tolerance) (s .limit) (s .corrections) (estimateOf s) (s .x .samples) (s .y .samples) (s .z .samples)
+pub starting-is : (s : Session) → starting s ≡ true → s ≡ startingSession (s .points) (s .tolerances) (s .limit) (s .corrections) (estimateOf s) (s .x .samples) (s .y .samples) (s .z .samples)
 unfolding startingSession estimateOf
 starting-is s t =
     let h = keeps-rules s t in
     λ i. record {
       state = h .state i;
       points = s .points;
-      tolerance = s .tolerance;
+      tolerances = s .tolerances;
       limit = s .limit;
       accepted = h .accepted i;
       corrections = s .corrections;

@@ -9,6 +9,7 @@ use Rattle.exact.specs.Numerator.{exactOf, sameExact}
 use Rattle.earlier.specs.Formulas.{hasCentre}
 use Rattle.axis.specs.declared.Axis.{Axis}
 use Rattle.axis.specs.declared.Motion.{Motion}
+use Rattle.axis.specs.declared.Tolerances.{Tolerances}
 use Rattle.axis.specs.Estimates.{inRange}
 use Rattle.axis.specs.Holding.{placesHold}
 use Rattle.session.specs.declared.Point.{Point}
@@ -46,7 +47,7 @@ axesStart s = axisStarts (s .points) (s .x) and axisStarts (s .points) (s .y) an
 unfoldable pub startHolds : Session → Bool
 startHolds s =
     hasCentre (s .points)
-    and settingsHold (s .tolerance) (s .limit)
+    and settingsHold (s .tolerances) (s .limit)
     and eqb (s .accepted) 0
     and ltb (s .corrections) (s .limit)
     and axesStart s
@@ -67,12 +68,12 @@ unfoldable pub startingAxis : Motion → List ℤ → Axis
 startingAxis epoch xs = record { first = exactOf (pos 0); second = exactOf (pos 0); samples = xs; estimate = epoch }
 
 -- starting, after so many later rounds
-unfoldable pub startingSession : ℕ → ℕ → ℕ → ℕ → Point → List ℤ → List ℤ → List ℤ → Session
-startingSession p tolerance limit rounds epoch xs ys zs =
+unfoldable pub startingSession : ℕ → Tolerances → ℕ → ℕ → Point → List ℤ → List ℤ → List ℤ → Session
+startingSession p tolerances limit rounds epoch xs ys zs =
     record {
       state = Starting;
       points = p;
-      tolerance = tolerance;
+      tolerances = tolerances;
       limit = limit;
       accepted = 0;
       corrections = rounds;
@@ -82,12 +83,12 @@ startingSession p tolerance limit rounds epoch xs ys zs =
     }
 
 -- settled at the newest point of a round
-unfoldable pub openedRound : ℕ → ℕ → Round → Session
-openedRound tolerance limit r =
+unfoldable pub openedRound : Tolerances → ℕ → Round → Session
+openedRound tolerances limit r =
     record {
       state = Settled;
       points = r .points;
-      tolerance = tolerance;
+      tolerances = tolerances;
       limit = limit;
       accepted = 0;
       corrections = 0;

@@ -5,6 +5,8 @@ use mathlib.Core.List.{List}
 use lib.IntN.{ℤ}
 use Rattle.integers.specs.Tests.{_and_}
 use Rattle.epochs.specs.Formulas.{earlierMotion, startedAxis}
+use Rattle.axis.specs.declared.Tolerances.{Tolerances}
+use Rattle.axis.specs.Agreement.{Kind}
 use Rattle.session.specs.declared.Point.{Point}
 use Rattle.session.specs.Moves.{pointInRange}
 use Rattle.session.specs.Apart.{pointsAgree, pointChange}
@@ -39,9 +41,10 @@ roundInRange r = everyBelow (r .points) (λ j. pointInRange (earlierPoint r j))
 
 -- ---- compared with another round
 
--- at every point
-unfoldable pub roundsAgree : ℕ → Round → Round → Bool
-roundsAgree tolerance r before = everyBelow (r .points) (λ j. pointsAgree tolerance (earlierPoint r j) (earlierPoint before j))
+-- at every point, all six changes
+unfoldable pub roundsAgree : Tolerances → Round → Round → Bool
+roundsAgree tolerances r before = everyBelow (r .points) (λ j. pointsAgree tolerances (earlierPoint r j) (earlierPoint before j))
 
-unfoldable pub largestMove : Round → Round → ℕ
-largestMove r before = largestBelow (r .points) (λ j. pointChange (earlierPoint r j) (earlierPoint before j))
+-- of each kind the largest change of an axis at a point
+unfoldable pub largestMove : Round → Round → Kind → ℕ
+largestMove r before kind = largestBelow (r .points) (λ j. pointChange (earlierPoint r j) (earlierPoint before j) kind)

@@ -1,31 +1,33 @@
 // How far the points of a round are from those of the round before it.
 use crate::Round;
 use crate::rounds::earlier_point;
-use exact::Exact;
+use axis::Motion;
+use axis::Tolerances;
+use axis::larger_change;
+use axis::no_motion;
 use session::point_change;
 use session::points_agree;
 ghost use mathlib.Core.Path.{_≡_};
 ghost use mathlib.Core.Bool.{true};
-ghost use Prim.Native.Nat.{_≤_};
-ghost use lib.IntN.{pos};
-ghost use Rattle.exact.specs.Numerator.{exactOf};
+ghost use Rattle.axis.specs.Agreement.{sizes};
+ghost use Rattle.axis.specs.Ready.{Tolerable};
 ghost use Rattle.starting.specs.Rounds.{roundInRange, roundsAgree, largestMove};
 ghost use Rattle.starting.specs.Ready.{ReadyRound};
 
-// Whether no position moved by more than the tolerance, at any point.
-pub fn rounds_agree(tolerance: u64, r: Round, before: Round) -> bool
-    requires { ⌜ tolerance ≤ 1048576 ⌝ }
+// Whether at every point the positions and the velocities moved by no more than their tolerances.
+pub fn rounds_agree(tolerances: Tolerances, r: Round, before: Round) -> bool
+    requires { ⌜ Tolerable tolerances ⌝ }
     requires { ⌜ ReadyRound r ⌝ }
     requires { ⌜ ReadyRound before ⌝ }
     requires { ⌜ r .points ≡ before .points ⌝ }
     requires { ⌜ roundInRange r ≡ true ⌝ }
     requires { ⌜ roundInRange before ≡ true ⌝ }
-    ensures { λ t. ⌜ t ≡ roundsAgree tolerance r before ⌝ }
+    ensures { λ t. ⌜ t ≡ roundsAgree tolerances r before ⌝ }
 {
     let n = r.points;
     let mut j: usize = 0;
     while j < n {
-        if !points_agree(tolerance, earlier_point(r, j), earlier_point(before, j)) {
+        if !points_agree(tolerances, earlier_point(r, j), earlier_point(before, j)) {
             return false;
         }
         j += 1;
@@ -33,20 +35,23 @@ pub fn rounds_agree(tolerance: u64, r: Round, before: Round) -> bool
     true
 }
 
-// By how much a position moved at most, at any point.
-pub fn largest_move(r: Round, before: Round) -> Exact
+// By how much a position moved at most, and a velocity, at any point.
+pub fn largest_move(r: Round, before: Round) -> Motion
     requires { ⌜ ReadyRound r ⌝ }
     requires { ⌜ ReadyRound before ⌝ }
     requires { ⌜ r .points ≡ before .points ⌝ }
     requires { ⌜ roundInRange r ≡ true ⌝ }
     requires { ⌜ roundInRange before ≡ true ⌝ }
-    ensures { λ e. ⌜ e ≡ exactOf (pos (largestMove r before)) ⌝ }
+    ensures { λ m. ⌜ m ≡ sizes (largestMove r before) ⌝ }
 {
     let n = r.points;
-    let mut most = Exact::ZERO;
+    let mut most = no_motion();
     let mut j: usize = 0;
     while j < n {
-        most = most.larger(point_change(earlier_point(r, j), earlier_point(before, j)));
+        most = larger_change(
+            most,
+            point_change(earlier_point(r, j), earlier_point(before, j)),
+        );
         j += 1;
     }
     most

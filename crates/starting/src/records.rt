@@ -4,6 +4,7 @@ use crate::rounds::round_in_range;
 use crate::rounds::round_of;
 use axis::Axis;
 use axis::Motion;
+use axis::Tolerances;
 use axis::in_range;
 use axis::places_hold;
 use earlier::has_centre;
@@ -87,7 +88,7 @@ fn start_holds(s: Session) -> bool
     if !has_centre(s.points) {
         return false;
     }
-    if !settings_hold(s.tolerance, s.limit) {
+    if !settings_hold(s.tolerances, s.limit) {
         return false;
     }
     if s.accepted != 0 {
@@ -125,7 +126,7 @@ fn starting_axis(epoch: Motion, samples: [i64; 9]) -> Axis
 // Starting, after so many later rounds.
 pub fn start_at(
     points: usize,
-    tolerance: u64,
+    tolerances: Tolerances,
     limit: u64,
     rounds: u64,
     epoch: Point,
@@ -133,7 +134,7 @@ pub fn start_at(
     ys: [i64; 9],
     zs: [i64; 9],
 ) -> Session
-    ensures { λ r. ⌜ r ≡ startingSession points tolerance limit rounds epoch xs ys zs ⌝ }
+    ensures { λ r. ⌜ r ≡ startingSession points tolerances limit rounds epoch xs ys zs ⌝ }
 {
     let x = starting_axis(epoch.x, xs);
     let y = starting_axis(epoch.y, ys);
@@ -141,7 +142,7 @@ pub fn start_at(
     Session {
         state: State::Starting,
         points,
-        tolerance,
+        tolerances,
         limit,
         accepted: 0,
         corrections: rounds,
@@ -152,8 +153,8 @@ pub fn start_at(
 }
 
 // Settled at the newest point of a round.
-pub fn open_round(tolerance: u64, limit: u64, r: Round) -> Session
-    ensures { λ s. ⌜ s ≡ openedRound tolerance limit r ⌝ }
+pub fn open_round(tolerances: Tolerances, limit: u64, r: Round) -> Session
+    ensures { λ s. ⌜ s ≡ openedRound tolerances limit r ⌝ }
 {
     let x = r.x;
     let y = r.y;
@@ -161,7 +162,7 @@ pub fn open_round(tolerance: u64, limit: u64, r: Round) -> Session
     Session {
         state: State::Settled,
         points: r.points,
-        tolerance,
+        tolerances,
         limit,
         accepted: 0,
         corrections: 0,

@@ -14,6 +14,8 @@ use Rattle.steps.specs.Answers.{openingAnswer, predictionAnswer, correctionAnsw
 use Rattle.steps.specs.Steps.{openOf, openAnswer, predictOf, predictAnswer, correctOf, correctAnswer, withdrawOf, withdrawAnswer}
 use Rattle.ticks.proofs.Sample
 use Rattle.ticks.proofs.Sample.Laws as SampleLaws
+use Rattle.axis.proofs.Tolerances
+use Rattle.axis.proofs.Tolerances.Laws as TolerancesLaws
 use Rattle.session.proofs.Session
 use Rattle.session.proofs.Session.Laws as SessionLaws
 use Rattle.steps.proofs.Start
@@ -42,6 +44,10 @@ session = record { type = Session.the-type; facts = record { laws = SessionLaws.
 
 abbrev start : Struct
 start = record { type = Start.the-type; facts = record { laws = StartLaws.the-field-laws; plain = StartLaws.the-field-plain; copy = StartLaws.the-field-copy } }
+
+abbrev tolerances : Struct
+tolerances =
+    record { type = Tolerances.the-type; facts = record { laws = TolerancesLaws.the-field-laws; plain = TolerancesLaws.the-field-plain; copy = TolerancesLaws.the-field-copy } }
 
 abbrev sample : Struct
 sample = record { type = Sample.the-type; facts = record { laws = SampleLaws.the-field-laws; plain = SampleLaws.the-field-plain; copy = SampleLaws.the-field-copy } }
@@ -88,7 +94,7 @@ opens = record {
   answer = opening;
   outcome = opened;
   lifetimes = 1;
-  args = count ∷ count ∷ count ∷ struct start ∷ slice 0 tt f64 ∷ [];
+  args = count ∷ struct tolerances ∷ count ∷ struct start ∷ slice 0 tt f64 ∷ [];
   takes = no-record;
   rule = λ κs a. openOf (a .0) (a .1 .0) (a .1 .1 .0) (a .1 .1 .1 .0) (a .1 .1 .1 .1 .0 .now);
   says = λ κs a r. openingAnswer r ≡ openAnswer (a .0) (a .1 .0) (a .1 .1 .0) (a .1 .1 .1 .0) (a .1 .1 .1 .1 .0 .now);
@@ -136,7 +142,7 @@ starts = record {
   answer = round;
   outcome = rounded;
   lifetimes = 1;
-  args = count ∷ count ∷ count ∷ struct start ∷ slice 0 tt f64 ∷ [];
+  args = count ∷ struct tolerances ∷ count ∷ struct start ∷ slice 0 tt f64 ∷ [];
   takes = no-record;
   rule = λ κs a. startOf (a .0) (a .1 .0) (a .1 .1 .0) (a .1 .1 .1 .0) (a .1 .1 .1 .1 .0 .now);
   says = λ κs a r. roundAnswer r ≡ startAnswer (a .0) (a .1 .0) (a .1 .1 .0) (a .1 .1 .1 .0) (a .1 .1 .1 .1 .0 .now);

@@ -1,4 +1,5 @@
 // The calls of the library: each is lent the session's record, takes the step by value, and leaves the record that the step gives.
+use axis::Tolerances;
 use rounds::RoundAnswer;
 use session::Session;
 use steps::Correction;
@@ -18,16 +19,16 @@ pub mod owned;
 pub fn open(
     s: &mut Session,
     points: usize,
-    tolerance: u64,
+    tolerances: Tolerances,
     limit: u64,
     start: Start,
     samples: &[f64],
 ) -> Opening
-    ensures { λ r. ⌜ (now (s .exit) ≡ openOf points tolerance limit start (now (samples .entry)) .session)
-        × (r ≡ openOf points tolerance limit start (now (samples .entry)) .answer)
-        × (openingAnswer r ≡ openAnswer points tolerance limit start (now (samples .entry))) ⌝ }
+    ensures { λ r. ⌜ (now (s .exit) ≡ openOf points tolerances limit start (now (samples .entry)) .session)
+        × (r ≡ openOf points tolerances limit start (now (samples .entry)) .answer)
+        × (openingAnswer r ≡ openAnswer points tolerances limit start (now (samples .entry))) ⌝ }
 {
-    let r = steps::open_step(points, tolerance, limit, start, samples);
+    let r = steps::open_step(points, tolerances, limit, start, samples);
     *s = r.session;
     r.answer
 }
@@ -66,16 +67,16 @@ pub fn withdraw(s: &mut Session) -> Withdrawal
 pub fn start(
     s: &mut Session,
     points: usize,
-    tolerance: u64,
+    tolerances: Tolerances,
     limit: u64,
     epoch: Start,
     samples: &[f64],
 ) -> RoundAnswer
-    ensures { λ r. ⌜ (now (s .exit) ≡ startOf points tolerance limit epoch (now (samples .entry)) .session)
-        × (r ≡ startOf points tolerance limit epoch (now (samples .entry)) .answer)
-        × (roundAnswer r ≡ startAnswer points tolerance limit epoch (now (samples .entry))) ⌝ }
+    ensures { λ r. ⌜ (now (s .exit) ≡ startOf points tolerances limit epoch (now (samples .entry)) .session)
+        × (r ≡ startOf points tolerances limit epoch (now (samples .entry)) .answer)
+        × (roundAnswer r ≡ startAnswer points tolerances limit epoch (now (samples .entry))) ⌝ }
 {
-    let r = rounds::start_step(points, tolerance, limit, epoch, samples);
+    let r = rounds::start_step(points, tolerances, limit, epoch, samples);
     *s = r.session;
     r.answer
 }

@@ -1,4 +1,5 @@
 // The same calls for whoever owns the record: each lends its own copy to a call, and returns what the call leaves beside its answer.
+use axis::Tolerances;
 use rounds::AfterRound;
 use session::Session;
 use steps::AfterCorrect;
@@ -14,15 +15,15 @@ ghost use Rattle.steps.specs.Steps.{openOf, predictOf, correctOf, withdrawOf};
 pub fn open(
     s: Session,
     points: usize,
-    tolerance: u64,
+    tolerances: Tolerances,
     limit: u64,
     start: Start,
     samples: &[f64],
 ) -> AfterOpen
-    ensures { λ r. ⌜ r ≡ openOf points tolerance limit start (now (samples .entry)) ⌝ }
+    ensures { λ r. ⌜ r ≡ openOf points tolerances limit start (now (samples .entry)) ⌝ }
 {
     let mut session = s;
-    let answer = crate::open(&mut session, points, tolerance, limit, start, samples);
+    let answer = crate::open(&mut session, points, tolerances, limit, start, samples);
     AfterOpen { session, answer }
 }
 
@@ -53,15 +54,15 @@ pub fn withdraw(s: Session) -> AfterWithdraw
 pub fn start(
     s: Session,
     points: usize,
-    tolerance: u64,
+    tolerances: Tolerances,
     limit: u64,
     epoch: Start,
     samples: &[f64],
 ) -> AfterRound
-    ensures { λ r. ⌜ r ≡ startOf points tolerance limit epoch (now (samples .entry)) ⌝ }
+    ensures { λ r. ⌜ r ≡ startOf points tolerances limit epoch (now (samples .entry)) ⌝ }
 {
     let mut session = s;
-    let answer = crate::start(&mut session, points, tolerance, limit, epoch, samples);
+    let answer = crate::start(&mut session, points, tolerances, limit, epoch, samples);
     AfterRound { session, answer }
 }
 

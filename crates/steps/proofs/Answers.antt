@@ -12,6 +12,7 @@ use Rattle.exact.specs.Numerator.{exactOf, wholly}
 use Rattle.ticks.specs.declared.Sample.{Sample}
 use Rattle.ticks.specs.Samples.{wholeOf}
 use Rattle.axis.specs.Formulas.{motionOf, still}
+use Rattle.axis.specs.declared.Tolerances.{Tolerances}
 use Rattle.session.specs.declared.Point.{Point}
 use Rattle.session.specs.declared.Session.{Session}
 use Rattle.session.specs.Moves.{nowhere, predictedPoint, correctedPoint}
@@ -73,26 +74,26 @@ pub no-point-is-zero : noPoint ≡ record { x = still-zeros; y = still-zeros; z 
 unfolding noPoint reportedPoint reportedMotion nowhere still motionOf exactOf add div ofInt
 no-point-is-zero = refl
 
-pub no-change-is-zero : noChange ≡ zeros
-unfolding noChange reportedChange exactOf add div ofInt
+pub no-change-is-zero : noChange ≡ still-zeros
+unfolding noChange reportedMotion still motionOf exactOf add div ofInt
 no-change-is-zero = refl
 
 -- ---- what each call answers
 
-module _ (p tolerance limit : ℕ) (start : Start) (floats : List Float) where
-  pub open-answers : openingAnswer (openOf p tolerance limit start floats .answer) ≡ openAnswer p tolerance limit start floats
+module _ (p : ℕ) (tolerances : Tolerances) (limit : ℕ) (start : Start) (floats : List Float) where
+  pub open-answers : openingAnswer (openOf p tolerances limit start floats .answer) ≡ openAnswer p tolerances limit start floats
   unfolding openOf
-  open-answers = go (openRefusal p tolerance limit start floats)
+  open-answers = go (openRefusal p tolerances limit start floats)
     where
-      go : (n : ℕ) → openingAnswer (openBy n p tolerance limit start floats .answer) ≡ answer n 0 noPoint noChange
+      go : (n : ℕ) → openingAnswer (openBy n p tolerances limit start floats .answer) ≡ answer n 0 noPoint noChange
       go zero = refl
       go (suc n) = refl
 
-  pub open-numbered : NumberedOpening (openOf p tolerance limit start floats .answer)
+  pub open-numbered : NumberedOpening (openOf p tolerances limit start floats .answer)
   unfolding openOf
-  open-numbered = go (openRefusal p tolerance limit start floats)
+  open-numbered = go (openRefusal p tolerances limit start floats)
     where
-      go : (n : ℕ) → NumberedOpening (openBy n p tolerance limit start floats .answer)
+      go : (n : ℕ) → NumberedOpening (openBy n p tolerances limit start floats .answer)
       go zero = tt
       go (suc n) = suc-ne-zero n
 

@@ -12,7 +12,8 @@ use Rattle.coefficients.specs.Formulas.{positionPredictor, positionCorrector, v
 use Rattle.ticks.specs.Round.{roundedOf}
 use Rattle.ticks.specs.Samples.{any}
 use Rattle.axis.specs.Formulas.{motionOf, still, presentMotion, predictedMotion, correctedMotion, keptSamples, advancedAxis, openedAxis, emptyAxis}
-use Rattle.axis.specs.Estimates.{sameMotion, inRange, changeOf, agreesOn}
+use Rattle.axis.specs.Estimates.{sameMotion, inRange}
+use Rattle.axis.specs.Agreement.{changeOf, sizes, agreesOn}
 use Rattle.axis.specs.Holding.{remaindersHold, samplesSmall, emptyZero}
 use Rattle.session.specs.Numbers.{pointsHold, settingsHold}
 use Rattle.session.specs.Moves.{nowhere, presentPoint, estimateOf, predictedPoint, correctedPoint, pointInRange, settledAgain, awaitingAt, acceptedAt, openedSession, closedSession}
@@ -25,5 +26,5 @@ use Rattle.steps.specs.Steps.{openOf, predictOf, correctOf}
 use Rattle.steps.specs.Figures.{figures}
 
 pub as-printed : All figures
-unfolding add div ofInt firstOf byDifferences exactOf numerator sameExact times c g l s total terms next divided run positionPredictor positionCorrector velocityPredictor velocityCorrector unsummedCowell roundedOf any motionOf still presentMotion predictedMotion correctedMotion keptSamples advancedAxis openedAxis emptyAxis sameMotion inRange changeOf agreesOn remaindersHold samplesSmall emptyZero pointsHold settingsHold nowhere presentPoint estimateOf predictedPoint correctedPoint pointInRange pointsAgree pointChange settledAgain awaitingAt acceptedAt openedSession closedSession countsHold samePoint settledHolds estimateBegins awaitingHolds holds settled awaiting reportedMotion reportedPoint reportedChange noPoint noChange wholePoint axisSamples openedWith openRefusal full predictRefusal agrees largestChange isLast correctRefusal openOf predictOf correctOf
+unfolding add div ofInt firstOf byDifferences exactOf numerator sameExact times c g l s total terms next divided run positionPredictor positionCorrector velocityPredictor velocityCorrector unsummedCowell roundedOf any motionOf still presentMotion predictedMotion correctedMotion keptSamples advancedAxis openedAxis emptyAxis sameMotion inRange changeOf sizes agreesOn remaindersHold samplesSmall emptyZero pointsHold settingsHold nowhere presentPoint estimateOf predictedPoint correctedPoint pointInRange pointsAgree pointChange settledAgain awaitingAt acceptedAt openedSession closedSession countsHold samePoint settledHolds estimateBegins awaitingHolds holds settled awaiting reportedMotion reportedPoint reportedChange noPoint noChange wholePoint axisSamples openedWith openRefusal full predictRefusal agrees largestChange isLast correctRefusal openOf predictOf correctOf
 as-printed = (refl, (refl, (refl, (refl, (refl, (refl, (refl, (refl, (refl, (refl, (refl, (refl, (refl, (refl, (refl, (refl, (refl, (refl, (refl, (refl, (refl, (refl, (refl, (refl, (refl, (refl, (refl, (refl, (refl, (refl, (refl, (refl, tt))))))))))))))))))))))))))))))))

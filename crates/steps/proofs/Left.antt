@@ -12,6 +12,7 @@ use Rattle.integers.specs.Tests.{_and_}
 use Rattle.ticks.specs.declared.Sample.{Sample}
 use Rattle.ticks.specs.Samples.{wholeOf}
 use Rattle.ticks.proofs.Faults.{whole-within}
+use Rattle.axis.specs.declared.Tolerances.{Tolerances}
 use Rattle.session.specs.declared.Point.{Point}
 use Rattle.session.specs.declared.Session.{Session}
 use Rattle.session.specs.Numbers.{mostPoints}
@@ -29,21 +30,21 @@ use Rattle.steps.proofs.Refusals.{open-0, predict-0, correct-0, correct
 
 -- ---- by the number
 
-module _ (p tolerance limit : ℕ) (start : Start) (floats : List Float) where
-  pub open-closes : NotZero (openRefusal p tolerance limit start floats) → openOf p tolerance limit start floats .session ≡ closedSession
+module _ (p : ℕ) (tolerances : Tolerances) (limit : ℕ) (start : Start) (floats : List Float) where
+  pub open-closes : NotZero (openRefusal p tolerances limit start floats) → openOf p tolerances limit start floats .session ≡ closedSession
   unfolding openOf
-  open-closes = go (openRefusal p tolerance limit start floats)
+  open-closes = go (openRefusal p tolerances limit start floats)
     where
-      go : (n : ℕ) → NotZero n → openBy n p tolerance limit start floats .session ≡ closedSession
+      go : (n : ℕ) → NotZero n → openBy n p tolerances limit start floats .session ≡ closedSession
       go zero f = absurd (f refl)
       go (suc n) f = refl
 
-  pub open-settles : openRefusal p tolerance limit start floats ≡ 0 → settled (openOf p tolerance limit start floats .session) ≡ true
+  pub open-settles : openRefusal p tolerances limit start floats ≡ 0 → settled (openOf p tolerances limit start floats .session) ≡ true
   unfolding openOf openedWith
   open-settles e =
-      let o = open-0 p tolerance limit start floats .0 e in
-      ap (λ n. settled (openBy n p tolerance limit start floats .session)) e
-      ∙ opened-session-holds p tolerance limit (wholePoint start) (axisSamples p 0 floats) (axisSamples p 1 floats) (axisSamples p 2 floats)
+      let o = open-0 p tolerances limit start floats .0 e in
+      ap (λ n. settled (openBy n p tolerances limit start floats .session)) e
+      ∙ opened-session-holds p tolerances limit (wholePoint start) (axisSamples p 0 floats) (axisSamples p 1 floats) (axisSamples p 2 floats)
       (o .points) (o .settings) (start-placed start (o .range)) (samples-small p 0 floats) (samples-small p 1 floats) (samples-small p 2 floats)
 
 module _ (s : Session) where
@@ -110,13 +111,13 @@ pub zero-or-not : (n : ℕ) → (n ≡ 0) ⊎ NotZero n
 zero-or-not zero = inl refl
 zero-or-not (suc n) = inr (suc-ne-zero n)
 
-pub open-leaves : (p tolerance limit : ℕ) (start : Start) (floats : List Float)
-    → (openOf p tolerance limit start floats .session ≡ closedSession) ⊎ (holds (openOf p tolerance limit start floats .session) ≡ true)
-open-leaves p tolerance limit start floats =
+pub open-leaves : (p : ℕ) (tolerances : Tolerances) (limit : ℕ) (start : Start) (floats : List Float)
+    → (openOf p tolerances limit start floats .session ≡ closedSession) ⊎ (holds (openOf p tolerances limit start floats .session) ≡ true)
+open-leaves p tolerances limit start floats =
     ⊎-elim
-    (λ e. inr (settled-holds (openOf p tolerance limit start floats .session) (open-settles p tolerance limit start floats e)))
-    (λ f. inl (open-closes p tolerance limit start floats f))
-    (zero-or-not (openRefusal p tolerance limit start floats))
+    (λ e. inr (settled-holds (openOf p tolerances limit start floats .session) (open-settles p tolerances limit start floats e)))
+    (λ f. inl (open-closes p tolerances limit start floats f))
+    (zero-or-not (openRefusal p tolerances limit start floats))
 
 pub predict-leaves : (s : Session) → (predictOf s .session ≡ s) ⊎ (holds (predictOf s .session) ≡ true)
 predict-leaves s =

@@ -14,6 +14,7 @@ use Rattle.ticks.specs.declared.Sample.{Sample}
 use Rattle.ticks.specs.Round.{isNotANumber, isInfinite, isTooLarge}
 use Rattle.ticks.specs.Samples.{any, axesOf, wholeOf}
 use Rattle.session.specs.declared.Point.{Point}
+use Rattle.axis.specs.declared.Tolerances.{Tolerances}
 use Rattle.session.specs.declared.Session.{Session}
 use Rattle.session.specs.Numbers.{pointsHold, settingsHold}
 use Rattle.session.specs.Moves.{predictedPoint, correctedPoint, pointInRange}
@@ -34,12 +35,12 @@ large xs = any isTooLarge xs
 
 -- ---- open
 
-module _ (p tolerance limit : ℕ) (start : Start) (floats : List Float) where
+module _ (p : ℕ) (tolerances : Tolerances) (limit : ℕ) (start : Start) (floats : List Float) where
   abbrev number : ℕ
-  number = openRefusal p tolerance limit start floats
+  number = openRefusal p tolerances limit start floats
 
   abbrev rules : List (Bool × ℕ)
-  rules = openRules p tolerance limit start floats
+  rules = openRules p tolerances limit start floats
 
   abbrev points : Bool
   points = pointsHold p
@@ -48,7 +49,7 @@ module _ (p tolerance limit : ℕ) (start : Start) (floats : List Float) where
   enough = eqb (length floats) (3 * p)
 
   abbrev settings : Bool
-  settings = settingsHold tolerance limit
+  settings = settingsHold tolerances limit
 
   abbrev range : Bool
   range = pointInRange (wholePoint start)
@@ -77,7 +78,7 @@ module _ (p tolerance limit : ℕ) (start : Start) (floats : List Float) where
   unfolding openRefusal
   open-5 = simp joined at (rule-applies 5 rules refl)
 
-  pub open-0 : (number ≡ 0) ↔ Openable p tolerance limit start floats
+  pub open-0 : (number ≡ 0) ↔ Openable p tolerances limit start floats
   unfolding openRefusal
   open-0 =
       let h = simp joined at (none-passes rules refl) in (

@@ -1,11 +1,10 @@
 -- The paper's number and values of every answer: zeros where an answer carries nothing. Definitions only.
 use Prim.Native.Nat.{ℕ, zero, suc}
 use mathlib.Core.Path.{_≡_}
-use lib.IntN.{pos}
-use Rattle.exact.specs.declared.Reported.{Reported}
-use Rattle.exact.specs.Numerator.{exactOf}
 use Rattle.exact.specs.Report.{reportedOf}
 use Rattle.axis.specs.declared.Motion.{Motion}
+use Rattle.axis.specs.Formulas.{still}
+use Rattle.axis.specs.Agreement.{Kind, sizes}
 use Rattle.session.specs.declared.Point.{Point}
 use Rattle.session.specs.Moves.{nowhere}
 use Rattle.steps.specs.declared.ReportedMotion.{ReportedMotion}
@@ -27,15 +26,15 @@ reportedMotion m = record { position = reportedOf (m .position); velocity = repo
 unfoldable pub reportedPoint : Point → ReportedPoint
 reportedPoint q = record { x = reportedMotion (q .x); y = reportedMotion (q .y); z = reportedMotion (q .z) }
 
--- the largest change of an axis, a size
-unfoldable pub reportedChange : ℕ → Reported
-reportedChange n = reportedOf (exactOf (pos n))
+-- the largest change of each kind, a size
+unfoldable pub reportedChange : (Kind → ℕ) → ReportedMotion
+reportedChange size = reportedMotion (sizes size)
 
 unfoldable pub noPoint : ReportedPoint
 noPoint = reportedPoint nowhere
 
-unfoldable pub noChange : Reported
-noChange = reportedChange 0
+unfoldable pub noChange : ReportedMotion
+noChange = reportedMotion still
 
 -- ---- one shape for the answers of the four calls
 
@@ -44,9 +43,9 @@ pub record Answer : Type 0 where
   pub number : ℕ
   pub kind : ℕ
   pub point : ReportedPoint
-  pub change : Reported
+  pub change : ReportedMotion
 
-abbrev pub answer : ℕ → ℕ → ReportedPoint → Reported → Answer
+abbrev pub answer : ℕ → ℕ → ReportedPoint → ReportedMotion → Answer
 answer number kind point change = record { number = number; kind = kind; point = point; change = change }
 
 -- what only a call that is not refused carries

@@ -33,4 +33,4 @@ pub record FaithfulPoint (q : ReportedPoint) : Type 0 where
 
 pub record FaithfulAnswer (a : Answer) : Type 0 where
   pub point : FaithfulPoint (a .point)
-  pub change : Faithful (a .change)
+  pub change : FaithfulMotion (a .change)

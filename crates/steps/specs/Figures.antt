@@ -9,14 +9,13 @@ use Rattle.integers.specs.Lines.{Line, line}
 use Rattle.integers.specs.Differences.{at, byDifferences}
 use Rattle.exact.specs.declared.Exact.{Exact}
 use Rattle.exact.specs.Numerator.{wholly}
-use Rattle.exact.specs.Report.{reportedOf}
 use Rattle.coefficients.specs.Formulas.{unsummedCowell}
 use Rattle.ticks.specs.Figures as Rounding
 use Rattle.axis.specs.Formulas.{ticks, still}
 use Rattle.session.specs.declared.Session.{Session}
 use Rattle.session.specs.declared.State.{State}
 use Rattle.session.specs.declared.State.the-variants.{Closed, Settled, Awaiting}
-use Rattle.steps.specs.Answers.{Answer, answer, refused, reportedPoint, openingAnswer, predictionAnswer, correctionAnswer}
+use Rattle.steps.specs.Answers.{Answer, answer, refused, reportedMotion, reportedPoint, openingAnswer, predictionAnswer, correctionAnswer}
 use Rattle.steps.specs.Opening.{wholeMotion}
 use Rattle.steps.specs.Steps.{openOf, predictOf, correctOf}
 
@@ -34,10 +33,14 @@ pub record Shown : Type 0 where
 abbrev float : ℤ → Float
 float n = ofInt binary64 n
 
--- an opening: p, tolerance, limit, x's position and velocity, floats
+-- the widest tolerance
+abbrev widest : ℕ
+widest = 1048576
+
+-- an opening: p, the position tolerance beside the widest velocity tolerance, limit, x's position and velocity, floats
 abbrev opens : ℕ → ℕ → ℕ → ℤ → ℤ → List Float → Shown
 opens p tolerance limit x vx floats =
-    let r = openOf p tolerance limit (record { x = x; y = pos 0; z = pos 0; vx = vx; vy = pos 0; vz = pos 0 }) floats in
+    let r = openOf p (record { position = tolerance; velocity = widest }) limit (record { x = x; y = pos 0; z = pos 0; vx = vx; vy = pos 0; vz = pos 0 }) floats in
     record { answer = openingAnswer (r .answer); session = r .session }
 
 abbrev shown : Session → Call → Shown
@@ -51,12 +54,12 @@ abbrev after : Shown → List Call → Shown
 after last [] = last
 after last (call ∷ rest) = after (shown (last .session) call) rest
 
--- p, tolerance and limit; x's position, velocity and sample to open with; the calls that follow
+-- p, position tolerance and limit; x's position, velocity and sample to open with; the calls that follow
 abbrev row : ℕ → ℕ → ℕ → ℤ → ℤ → ℤ → List Call → Shown
 row p tolerance limit position velocity sample calls =
     after (opens p tolerance limit position velocity (float sample ∷ float (pos 0) ∷ float (pos 0) ∷ [])) calls
 
--- H3's opening, with a tolerance and a limit, and the calls that follow
+-- H3's opening, with a position tolerance and a limit, and the calls that follow
 abbrev h3 : ℕ → ℕ → List Call → Shown
 h3 tolerance limit calls = row 1 tolerance limit (pos 1000) (pos 10) (pos 12) calls
 
@@ -71,11 +74,11 @@ pub record Says : Type 0 where
 abbrev told : Shown → Says
 told r = record { answer = r .answer; state = r .session .state; accepted = r .session .accepted; corrections = r .session .corrections }
 
--- the kind; position, velocity and change in whole ticks; the record's state, its accepted points and corrections
-abbrev says : ℕ → ℤ → ℤ → ℕ → State → ℕ → ℕ → Says
-says kind position velocity change state accepted corrections =
+-- the kind; position, velocity and the change of each in whole ticks; the record's state, its accepted points and corrections
+abbrev says : ℕ → ℤ → ℤ → ℕ → ℕ → State → ℕ → ℕ → Says
+says kind position velocity moved turned state accepted corrections =
     record {
-      answer = answer 0 kind (reportedPoint (record { x = wholeMotion position velocity; y = still; z = still })) (reportedOf (wholly (pos change)));
+      answer = answer 0 kind (reportedPoint (record { x = wholeMotion position velocity; y = still; z = still })) (reportedMotion (wholeMotion (pos moved) (pos turned)));
       state = state;
       accepted = accepted;
       corrections = corrections;
@@ -100,18 +103,18 @@ sessions =
     -- H3
     ∷ line Exact (h3 1 2 [] .session .x .first) (wholly (pos 16))
     ∷ line Exact (h3 1 2 [] .session .x .second) (wholly (pos 1015))
-    ∷ line Says (told (h3 1 2 (predict ∷ []))) (says 0 (pos 1016) (pos 22) 0 Awaiting 0 0)
+    ∷ line Says (told (h3 1 2 (predict ∷ []))) (says 0 (pos 1016) (pos 22) 0 0 Awaiting 0 0)
     -- H4
-    ∷ line Says (told (h3 1 2 (predict ∷ correct (pos 24) ∷ []))) (says 1 (pos 1017) (pos 28) 0 Settled 1 0)
+    ∷ line Says (told (h3 1 2 (predict ∷ correct (pos 24) ∷ []))) (says 1 (pos 1017) (pos 28) 0 0 Settled 1 0)
     -- H5
-    ∷ line Says (told (h3 0 2 (predict ∷ correct (pos 24) ∷ []))) (says 2 (pos 1017) (pos 28) 1 Awaiting 0 1)
-    ∷ line Says (told (h3 0 2 (predict ∷ correct (pos 24) ∷ correct (pos 24) ∷ []))) (says 1 (pos 1017) (pos 28) 0 Settled 1 0)
+    ∷ line Says (told (h3 0 2 (predict ∷ correct (pos 24) ∷ []))) (says 2 (pos 1017) (pos 28) 1 6 Awaiting 0 1)
+    ∷ line Says (told (h3 0 2 (predict ∷ correct (pos 24) ∷ correct (pos 24) ∷ []))) (says 1 (pos 1017) (pos 28) 0 0 Settled 1 0)
     -- H6: the record is as it was opened
     ∷ line Says (told (h3 0 1 (predict ∷ correct (pos 24) ∷ []))) (refuses 8 Settled)
     ∷ line Session (h3 0 1 (predict ∷ correct (pos 24) ∷ []) .session) (h3 0 1 [] .session)
     -- H7, with both sides of the unsummed formula
-    ∷ line Says (told (h3 1 2 (predict ∷ correct (pos 24) ∷ predict ∷ []))) (says 0 (pos 1057) (pos 52) 0 Awaiting 1 0)
-    ∷ line Says (told (h3 1 2 (predict ∷ correct (pos 24) ∷ predict ∷ correct (pos 24) ∷ []))) (says 1 (pos 1057) (pos 52) 0 Settled 2 0)
+    ∷ line Says (told (h3 1 2 (predict ∷ correct (pos 24) ∷ predict ∷ []))) (says 0 (pos 1057) (pos 52) 0 0 Awaiting 1 0)
+    ∷ line Says (told (h3 1 2 (predict ∷ correct (pos 24) ∷ predict ∷ correct (pos 24) ∷ []))) (says 1 (pos 1057) (pos 52) 0 0 Settled 2 0)
     ∷ line ℤ (pos 1057 -ℤ pos 2 *ℤ pos 1017 +ℤ pos 1000) (pos 23)
     ∷ line ℤ (byDifferences (unsummedCowell 1) (at (pos 24 ∷ pos 24 ∷ pos 12 ∷ []))) (ticks (pos 23))
     -- H8

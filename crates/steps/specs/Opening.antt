@@ -7,6 +7,7 @@ use lib.ListN.{getD}
 use Rattle.exact.specs.Numerator.{wholly}
 use Rattle.ticks.specs.Round.{roundedOf, ticksIn}
 use Rattle.axis.specs.declared.Motion.{Motion}
+use Rattle.axis.specs.declared.Tolerances.{Tolerances}
 use Rattle.axis.specs.Formulas.{places}
 use Rattle.session.specs.declared.Point.{Point}
 use Rattle.session.specs.declared.Session.{Session}
@@ -24,6 +25,6 @@ unfoldable pub axisSamples : ℕ → ℕ → List Float → List ℤ
 axisSamples zero k floats = []
 axisSamples (suc p) k floats = ticksIn (roundedOf (getD floats (3 * p + k) Float.nan)) ∷ axisSamples p k floats
 
-unfoldable pub openedWith : ℕ → ℕ → ℕ → Point → List Float → Session
-openedWith p tolerance limit q floats =
-    openedSession p tolerance limit q (places p (axisSamples p 0 floats)) (places p (axisSamples p 1 floats)) (places p (axisSamples p 2 floats))
+unfoldable pub openedWith : ℕ → Tolerances → ℕ → Point → List Float → Session
+openedWith p tolerances limit q floats =
+    openedSession p tolerances limit q (places p (axisSamples p 0 floats)) (places p (axisSamples p 1 floats)) (places p (axisSamples p 2 floats))

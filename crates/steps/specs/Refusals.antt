@@ -11,6 +11,8 @@ use Rattle.ticks.specs.declared.Fault.the-variants.{Nothing, NotANumber, Infini
 use Rattle.ticks.specs.declared.Sample.{Sample}
 use Rattle.ticks.specs.Round.{isNotANumber, isInfinite, isTooLarge}
 use Rattle.ticks.specs.Samples.{any, axesOf, wholeOf}
+use Rattle.axis.specs.declared.Tolerances.{Tolerances}
+use Rattle.axis.specs.Agreement.{Kind}
 use Rattle.session.specs.declared.Point.{Point}
 use Rattle.session.specs.declared.Session.{Session}
 use Rattle.session.specs.Numbers.{pointsHold, settingsHold, mostPoints}
@@ -37,16 +39,16 @@ faultNumber TooLarge = 5
 
 -- ---- open
 
-abbrev pub openRules : ℕ → ℕ → ℕ → Start → List Float → List (Bool × ℕ)
-openRules p tolerance limit start floats =
+abbrev pub openRules : ℕ → Tolerances → ℕ → Start → List Float → List (Bool × ℕ)
+openRules p tolerances limit start floats =
     (not (pointsHold p), 1)
     ∷ (not (eqb (length floats) (3 * p)), 2)
-    ∷ (not (settingsHold tolerance limit), 3)
+    ∷ (not (settingsHold tolerances limit), 3)
     ∷ (not (pointInRange (wholePoint start)), 6)
     ∷ sampleRules floats
 
-unfoldable pub openRefusal : ℕ → ℕ → ℕ → Start → List Float → ℕ
-openRefusal p tolerance limit start floats = firstOf (openRules p tolerance limit start floats)
+unfoldable pub openRefusal : ℕ → Tolerances → ℕ → Start → List Float → ℕ
+openRefusal p tolerances limit start floats = firstOf (openRules p tolerances limit start floats)
 
 -- ---- predict
 
@@ -66,12 +68,12 @@ predictRefusal s = firstOf (predictRules s)
 
 -- ---- correct
 
--- on each axis the change from the last estimate is at most the tolerance
+-- all six changes from the last estimate are at most their own tolerance
 unfoldable pub agrees : Session → Point → Bool
-agrees s q = pointsAgree (s .tolerance) q (estimateOf s)
+agrees s q = pointsAgree (s .tolerances) q (estimateOf s)
 
--- the largest change of an axis
-unfoldable pub largestChange : Session → Point → ℕ
+-- of each kind the largest change of an axis
+unfoldable pub largestChange : Session → Point → Kind → ℕ
 largestChange s q = pointChange q (estimateOf s)
 
 -- this correction is the last that the limit allows

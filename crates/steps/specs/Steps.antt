@@ -7,6 +7,7 @@ use lib.Ieee.{Float}
 use Rattle.ticks.specs.declared.Sample.{Sample}
 use Rattle.ticks.specs.declared.WholeSample.{WholeSample}
 use Rattle.ticks.specs.Samples.{wholeOf}
+use Rattle.axis.specs.declared.Tolerances.{Tolerances}
 use Rattle.session.specs.declared.Point.{Point}
 use Rattle.session.specs.declared.Session.{Session}
 use Rattle.session.specs.Moves.{predictedPoint, correctedPoint, settledAgain, awaitingAt, acceptedAt, closedSession}
@@ -25,12 +26,12 @@ use Rattle.steps.specs.Refusals.{openRefusal, predictRefusal, correctRef
 
 -- ---- open: whatever the record held before
 
-abbrev pub openBy : ℕ → ℕ → ℕ → ℕ → Start → List Float → AfterOpen
-openBy zero p tolerance limit start floats = record { session = openedWith p tolerance limit (wholePoint start) floats; answer = O.Opened }
-openBy (suc n) p tolerance limit start floats = record { session = closedSession; answer = O.Refused (suc n) }
+abbrev pub openBy : ℕ → ℕ → Tolerances → ℕ → Start → List Float → AfterOpen
+openBy zero p tolerances limit start floats = record { session = openedWith p tolerances limit (wholePoint start) floats; answer = O.Opened }
+openBy (suc n) p tolerances limit start floats = record { session = closedSession; answer = O.Refused (suc n) }
 
-unfoldable pub openOf : ℕ → ℕ → ℕ → Start → List Float → AfterOpen
-openOf p tolerance limit start floats = openBy (openRefusal p tolerance limit start floats) p tolerance limit start floats
+unfoldable pub openOf : ℕ → Tolerances → ℕ → Start → List Float → AfterOpen
+openOf p tolerances limit start floats = openBy (openRefusal p tolerances limit start floats) p tolerances limit start floats
 
 -- ---- predict
 
@@ -67,8 +68,8 @@ withdrawOf s = withdrawBy (withdrawRefusal s) s
 
 -- ---- what each call answers, in the paper's shape: the number of the first rule that applies, and zeros beside it unless it is 0
 
-abbrev pub openAnswer : ℕ → ℕ → ℕ → Start → List Float → Answer
-openAnswer p tolerance limit start floats = answer (openRefusal p tolerance limit start floats) 0 noPoint noChange
+abbrev pub openAnswer : ℕ → Tolerances → ℕ → Start → List Float → Answer
+openAnswer p tolerances limit start floats = answer (openRefusal p tolerances limit start floats) 0 noPoint noChange
 
 abbrev pub predictAnswerBy : ℕ → Session → Answer
 predictAnswerBy n s = answer n 0 (unless n (reportedPoint (predictedPoint s)) noPoint) noChange

@@ -9,6 +9,7 @@ use Rattle.integers.specs.Tests.{_and_}
 use Rattle.ticks.specs.declared.Fault.the-variants.{Nothing}
 use Rattle.ticks.specs.declared.Sample.{Sample}
 use Rattle.ticks.specs.Samples.{faultIn, axesOf, wholeOf}
+use Rattle.axis.specs.declared.Tolerances.{Tolerances}
 use Rattle.session.specs.declared.Session.{Session}
 use Rattle.session.specs.Numbers.{pointsHold, settingsHold}
 use Rattle.session.specs.Moves.{predictedPoint, correctedPoint, pointInRange}
@@ -17,10 +18,10 @@ use Rattle.steps.specs.declared.Start.{Start}
 use Rattle.steps.specs.Opening.{wholePoint}
 use Rattle.steps.specs.Refusals.{full, agrees, isLast}
 
-pub record Openable (p tolerance limit : ℕ) (start : Start) (floats : List Float) : Type 0 where
+pub record Openable (p : ℕ) (tolerances : Tolerances) (limit : ℕ) (start : Start) (floats : List Float) : Type 0 where
   pub points : pointsHold p ≡ true
   pub enough : length floats ≡ 3 * p
-  pub settings : settingsHold tolerance limit ≡ true
+  pub settings : settingsHold tolerances limit ≡ true
   pub range : pointInRange (wholePoint start) ≡ true
   pub faultless : faultIn floats ≡ Nothing
 

@@ -2,8 +2,9 @@
 use crate::AfterCorrect;
 use crate::Correction;
 use crate::checks::fault_number;
+use crate::reports::report_motion;
 use crate::reports::report_point;
-use exact::Exact;
+use axis::Motion;
 use session::Point;
 use session::Session;
 use session::accept;
@@ -19,9 +20,8 @@ use ticks::Sample;
 use ticks::WholeSample;
 ghost use mathlib.Core.Path.{_≡_};
 ghost use mathlib.Core.Bool.{true};
-ghost use lib.IntN.{pos};
 ghost use Rattle.integers.specs.Tests.{firstOf};
-ghost use Rattle.exact.specs.Numerator.{exactOf};
+ghost use Rattle.axis.specs.Agreement.{sizes};
 ghost use Rattle.ticks.specs.Samples.{WithinLimit};
 ghost use Rattle.session.specs.Holding.{awaiting};
 ghost use Rattle.session.specs.Moves.{correctedPoint, pointInRange};
@@ -34,13 +34,13 @@ fn is_agreed(s: Session, q: Point) -> bool
     requires { ⌜ PlacedPoint q ⌝ }
     ensures { λ r. ⌜ r ≡ agrees s q ⌝ }
 {
-    points_agree(s.tolerance, q, estimate_of(s))
+    points_agree(s.tolerances, q, estimate_of(s))
 }
 
-fn largest_change(s: Session, q: Point) -> Exact
+fn largest_change(s: Session, q: Point) -> Motion
     requires { ⌜ Waiting s ⌝ }
     requires { ⌜ PlacedPoint q ⌝ }
-    ensures { λ r. ⌜ r ≡ exactOf (pos (largestChange s q)) ⌝ }
+    ensures { λ r. ⌜ r ≡ sizes (largestChange s q) ⌝ }
 {
     point_change(q, estimate_of(s))
 }
@@ -78,7 +78,7 @@ fn judge(s: Session, w: WholeSample, q: Point) -> AfterCorrect
             answer: Correction::Refused(8),
         };
     }
-    let change = largest_change(s, q).reported();
+    let change = report_motion(largest_change(s, q));
     let session = await_at(s, made, q);
     AfterCorrect {
         session,

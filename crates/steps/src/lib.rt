@@ -15,6 +15,7 @@ pub use opens::axis_samples;
 pub use opens::open_step;
 pub use opens::start_point;
 pub use predicts::predict_step;
+pub use reports::report_motion;
 pub use reports::report_point;
 pub use withdraws::withdraw_step;
 
@@ -50,10 +51,10 @@ pub enum Prediction {
     Refused(u8),
 }
 
-// A point, an estimate and the largest change, or a refusal's number.
+// A point, an estimate and the largest change of each kind, or a refusal's number.
 pub enum Correction {
     Accepted(ReportedPoint),
-    Again(ReportedPoint, Reported),
+    Again(ReportedPoint, ReportedMotion),
     Refused(u8),
 }
 

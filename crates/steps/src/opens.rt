@@ -4,6 +4,7 @@ use crate::Opening;
 use crate::Start;
 use crate::checks::fault_number;
 use axis::Motion;
+use axis::Tolerances;
 use exact::Exact;
 use session::Point;
 use session::Session;
@@ -67,26 +68,26 @@ fn refuse_open(number: u8) -> AfterOpen
 }
 
 // The arguments of an open that nothing refuses.
-fn open_with(points: usize, tolerance: u64, limit: u64, q: Point, floats: &[f64]) -> Session
+fn open_with(points: usize, tolerances: Tolerances, limit: u64, q: Point, floats: &[f64]) -> Session
     requires { ⌜ (1 ≤ points) × (points ≤ 9) ⌝ }
     requires { ⌜ PlacedPoint q ⌝ }
     requires { ⌜ length (now floats) ≡ 3 * points ⌝ }
-    ensures { λ r. ⌜ r ≡ openedWith points tolerance limit q (now (floats .entry)) ⌝ }
+    ensures { λ r. ⌜ r ≡ openedWith points tolerances limit q (now (floats .entry)) ⌝ }
 {
     let xs = axis_samples(points, 0, floats);
     let ys = axis_samples(points, 1, floats);
     let zs = axis_samples(points, 2, floats);
-    open_at(points, tolerance, limit, q, xs, ys, zs)
+    open_at(points, tolerances, limit, q, xs, ys, zs)
 }
 
 pub fn open_step(
     points: usize,
-    tolerance: u64,
+    tolerances: Tolerances,
     limit: u64,
     start: Start,
     floats: &[f64],
 ) -> AfterOpen
-    ensures { λ r. ⌜ r ≡ openOf points tolerance limit start (now (floats .entry)) ⌝ }
+    ensures { λ r. ⌜ r ≡ openOf points tolerances limit start (now (floats .entry)) ⌝ }
 {
     if !points_hold(points) {
         return refuse_open(1);
@@ -94,7 +95,7 @@ pub fn open_step(
     if floats.len() != 3 * points {
         return refuse_open(2);
     }
-    if !settings_hold(tolerance, limit) {
+    if !settings_hold(tolerances, limit) {
         return refuse_open(3);
     }
     let q = start_point(start);
@@ -105,7 +106,7 @@ pub fn open_step(
     if number != 0 {
         return refuse_open(number);
     }
-    let session = open_with(points, tolerance, limit, q, floats);
+    let session = open_with(points, tolerances, limit, q, floats);
     AfterOpen {
         session,
         answer: Opening::Opened,

@@ -11,12 +11,14 @@ slice-aggregate-open-2 : tie.Need-slice-aggregate-open-2
 slice-aggregate-open-2 c =
     let b = c .before .before .before .before in
     let e : length (b .samples .result) ≡ 27 = search needs in
-    omega (arith, e, b .before .pre, length-take (3 * b .before .args .p) (b .samples .result))
+    let s = b .before .before in
+    omega (arith, e, s .pre, length-take (3 * s .args .p) (b .samples .result))
 
 pub order-spec : {M : Type 1} → statement M
 order-spec =
     tie.close
     (tie.spec
+    (λ c κs. search needs)
     (λ c κs. search needs)
     (λ c κs. search needs)
     (λ c. search needs)

@@ -14,12 +14,13 @@ used : (p : ℕ) (xs : List Float) → length xs ≡ 27 → p ≤ 9 → 3 * p �
 used p xs e h = sym (length-take-le (3 * p) xs (omega arith))
 
 slice-aggregate-open : tie.Need-slice-aggregate-open
-slice-aggregate-open c = let b = c .before .before .before in used (b .args .points) _ refl (b .pre)
+slice-aggregate-open c = let b = c .before .before .before .before in used (b .args .points) _ refl (b .pre)
 
 pub opened-spec : {M : Type 1} → statement M
 opened-spec =
     tie.close
     (tie.spec
+    (λ c κs. search needs)
     (λ c κs. search needs)
     (λ c κs. search needs)
     (λ c. search needs)

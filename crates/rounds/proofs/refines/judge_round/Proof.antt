@@ -5,18 +5,16 @@ use Prim.Native.Nat.{_+_}
 use native.Mathlib.Omega.{arith}
 use borrow.Author.Needs.{needs}
 use borrow.Author.Tests.{le-leb, lt-leb}
-use lib.IntN.{pos}
-use Rattle.exact.specs.Numerator.{exactOf}
-use Rattle.exact.specs.Report.{reportedOf}
-use Rattle.axis.proofs.Agreement.{size-reports}
+use Rattle.axis.specs.Agreement.{sizes}
 use Rattle.session.specs.Moves.{estimateOf}
 use Rattle.session.proofs.Rules.{settings-hold}
 use Rattle.starting.specs.Rounds.{roundsAgree, largestMove}
 use Rattle.starting.specs.Records.{heldRound, startingSession}
 use Rattle.starting.proofs.Points.{move-within}
 use Rattle.starting.proofs.Rules.{keeps-rules, starting-round}
-use Rattle.steps.specs.Answers.{reportedChange}
+use Rattle.steps.specs.Answers.{reportedMotion, reportedChange}
 use Rattle.steps.specs.Refusals.{isLast}
+use Rattle.steps.proofs.Changes.{sizes-report}
 use Rattle.rounds.specs.declared.Outcome.the-variants.{More, Opened}
 use Rattle.rounds.specs.Steps.{refused}
 use Rattle.rounds.proofs.Compared.{comparable, later-opens, later-ends, later-asks}
@@ -32,14 +30,14 @@ rounds-agree-requires c κs =
     let s = d .args .s in
     let g = c .before .held-round in
     let k = comparable s (d .args .r) (g .result) (d .pre .0) (d .pre .1 .0) (d .pre .1 .1 .0) (d .pre .1 .1 .1) (g .ensures) in
-    (settings-hold (s .tolerance) (s .limit) .0 (keeps-rules s (d .pre .0) .settings) .0, (k .ready, (k .ready-before, (k .points, (k .range, k .range-before)))))
+    (settings-hold (s .tolerances) (s .limit) .0 (keeps-rules s (d .pre .0) .settings) .0, (k .ready, (k .ready-before, (k .points, (k .range, k .range-before)))))
 
 returns : tie.Need-returns
 returns c =
     let d = c .before .before .before .before .before in
     let s = d .args .s in
     let r = d .args .r in
-    let a : roundsAgree (s .tolerance) r (heldRound s) ≡ true = ap (roundsAgree (s .tolerance) r) (sym (c .before .before .before .before .held-round .ensures)) ∙ sym (c .before .before .rounds-agree .ensures) ∙ c .before .if1 .taken in
+    let a : roundsAgree (s .tolerances) r (heldRound s) ≡ true = ap (roundsAgree (s .tolerances) r) (sym (c .before .before .before .before .held-round .ensures)) ∙ sym (c .before .before .rounds-agree .ensures) ∙ c .before .if1 .taken in
     let session = c .open-round .ensures in
     let points = c .before .before .before .round-points .ensures in
     (λ i. record { session = session i; answer = record { outcome = Opened; points = points i } }) ∙ sym (later-opens s r (d .pre .1 .1 .1) a)
@@ -49,7 +47,7 @@ add-made c =
     let d = c .before .before .before .before .before in
     let s = d .args .s in
     let h = keeps-rules s (d .pre .0) in
-    omega (arith, h .rounds, settings-hold (s .tolerance) (s .limit) .0 (h .settings) .1 .1)
+    omega (arith, h .rounds, settings-hold (s .tolerances) (s .limit) .0 (h .settings) .1 .1)
 
 returns-2 : tie.Need-returns-2
 unfolding isLast
@@ -58,7 +56,7 @@ returns-2 c =
     let d = b .before .before .before .before in
     let s = d .args .s in
     let r = d .args .r in
-    let a : roundsAgree (s .tolerance) r (heldRound s) ≡ false = ap (roundsAgree (s .tolerance) r) (sym (b .before .before .before .held-round .ensures)) ∙ sym (b .before .rounds-agree .ensures) ∙ b .if1 .left in
+    let a : roundsAgree (s .tolerances) r (heldRound s) ≡ false = ap (roundsAgree (s .tolerances) r) (sym (b .before .before .before .held-round .ensures)) ∙ sym (b .before .rounds-agree .ensures) ∙ b .if1 .left in
     c .refuse-refine .ensures
     ∙ ap (λ t. record { session = t; answer = refused 8 }) (c .before .closed .ensures)
     ∙ sym (later-ends s r (d .pre .1 .1 .1) a (le-leb _ _ (c .before .before .if2 .taken)))
@@ -70,14 +68,14 @@ largest-move-requires c κs =
     let k = comparable (d .args .s) (d .args .r) (g .held-round .result) (d .pre .0) (d .pre .1 .0) (d .pre .1 .1 .0) (d .pre .1 .1 .1) (g .held-round .ensures) in
     (k .ready, (k .ready-before, (k .points, (k .range, k .range-before))))
 
-reported-requires : tie.Need-reported-requires
-reported-requires c κs =
+report-motion-requires : tie.Need-report-motion-requires
+report-motion-requires c κs =
     let g = c .before .before .before .before .before .before .before in
     let d = g .before in
     let r = d .args .r in
     let before = g .held-round .result in
     let k = comparable (d .args .s) r before (d .pre .0) (d .pre .1 .0) (d .pre .1 .1 .0) (d .pre .1 .1 .1) (g .held-round .ensures) in
-    rw (c .largest-move .ensures) (size-reports (largestMove r before) (move-within r before (k .points) (k .range) (k .range-before)))
+    rw (c .largest-move .ensures) (sizes-report (largestMove r before) (move-within r before (k .points) (k .range) (k .range-before)))
 
 returns-3 : tie.Need-returns-3
 unfolding isLast reportedChange
@@ -87,9 +85,9 @@ returns-3 c =
     let d = g .before in
     let s = d .args .s in
     let r = d .args .r in
-    let a : roundsAgree (s .tolerance) r (heldRound s) ≡ false = ap (roundsAgree (s .tolerance) r) (sym (g .held-round .ensures)) ∙ sym (b .before .rounds-agree .ensures) ∙ b .if1 .left in
-    let session = c .ask-more .ensures ∙ ap (λ n. startingSession n (s .tolerance) (s .limit) (s .corrections + 1) (estimateOf s) (r .x .samples) (r .y .samples) (r .z .samples)) (sym (d .pre .1 .1 .0)) in
-    let change = c .before .reported .ensures ∙ ap reportedOf (c .before .before .largest-move .ensures ∙ ap (λ q. exactOf (pos (largestMove r q))) (g .held-round .ensures)) in
+    let a : roundsAgree (s .tolerances) r (heldRound s) ≡ false = ap (roundsAgree (s .tolerances) r) (sym (g .held-round .ensures)) ∙ sym (b .before .rounds-agree .ensures) ∙ b .if1 .left in
+    let session = c .ask-more .ensures ∙ ap (λ n. startingSession n (s .tolerances) (s .limit) (s .corrections + 1) (estimateOf s) (r .x .samples) (r .y .samples) (r .z .samples)) (sym (d .pre .1 .1 .0)) in
+    let change = c .before .report-motion .ensures ∙ ap reportedMotion (c .before .before .largest-move .ensures ∙ ap (λ q. sizes (largestMove r q)) (g .held-round .ensures)) in
     let points = b .before .before .round-points .ensures in
     (λ i. record { session = session i; answer = record { outcome = More (change i); points = points i } })
     ∙ sym (later-asks s r (d .pre .1 .1 .1) a (lt-leb _ _ (c .before .before .before .if2 .left)))
@@ -108,6 +106,6 @@ judge-round-spec =
     (λ c κs. tt)
     returns-2
     largest-move-requires
-    reported-requires
+    report-motion-requires
     (λ c κs. tt)
     returns-3)

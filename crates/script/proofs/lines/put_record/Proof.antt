@@ -11,8 +11,8 @@ put-settings-requires c κs =
     let w1 = within 6 (c .before .before .before .put-word .ensures) (omega arith) in
     omega (arith, s .pre, w1 .room, w1 .long)
 
-put-counts-requires : tie.Need-put-counts-requires
-put-counts-requires c κs =
+put-two-requires : tie.Need-put-two-requires
+put-two-requires c κs =
     let s = c .before .before .before .before .before .before .before .before .before .before .before in
     let w1 = within 6 (c .before .before .before .before .before .before .before .put-word .ensures) (omega arith) in
     let w2 = c .before .before .before .put-settings .ensures in
@@ -23,7 +23,7 @@ put-axes-requires c κs =
     let s = c .before .before .before .before .before .before .before .before .before .before .before .before .before .before .before in
     let w1 = within 6 (c .before .before .before .before .before .before .before .before .before .before .before .put-word .ensures) (omega arith) in
     let w2 = c .before .before .before .before .before .before .before .put-settings .ensures in
-    let w3 = c .before .before .before .put-counts .ensures in
+    let w3 = c .before .before .before .put-two .ensures in
     omega (arith, s .pre, w1 .room, w1 .long, w2 .room, w2 .long, w3 .room, w3 .long)
 
 put-requires : tie.Need-put-requires
@@ -31,7 +31,7 @@ put-requires c κs =
     let s = c .before .before .before .before .before .before .before .before .before .before .before .before .before .before .before .before .before .before .before in
     let w1 = within 6 (c .before .before .before .before .before .before .before .before .before .before .before .before .before .before .before .put-word .ensures) (omega arith) in
     let w2 = c .before .before .before .before .before .before .before .before .before .before .before .put-settings .ensures in
-    let w3 = c .before .before .before .before .before .before .before .put-counts .ensures in
+    let w3 = c .before .before .before .before .before .before .before .put-two .ensures in
     let w4 = c .before .before .before .put-axes .ensures in
     omega (arith, s .pre, w1 .room, w1 .long, w2 .room, w2 .long, w3 .room, w3 .long, w4 .room, w4 .long)
 
@@ -40,10 +40,10 @@ returns c =
     let s = c .before .before .before .before .before .before .before .before .before .before .before .before .before .before .before .before .before .before .before .before .before .before in
     let w1 = within 6 (c .before .before .before .before .before .before .before .before .before .before .before .before .before .before .before .before .before .before .put-word .ensures) (omega arith) in
     let w2 = c .before .before .before .before .before .before .before .before .before .before .before .before .before .before .put-settings .ensures in
-    let w3 = c .before .before .before .before .before .before .before .before .before .before .put-counts .ensures in
+    let w3 = c .before .before .before .before .before .before .before .before .before .before .put-two .ensures in
     let w4 = c .before .before .before .before .before .before .put-axes .ensures in
     let w5 = within 1 (c .before .before .put .ensures) (omega arith) in
     then (then (then (then w1 w2) w3) w4) w5
 
 pub put-record-spec : {M : Type 1} → statement M
-put-record-spec = tie.close (tie.spec (λ c. search needs) (λ c κs. search needs) put-settings-requires put-counts-requires put-axes-requires put-requires (λ c. returns c .long) returns)
+put-record-spec = tie.close (tie.spec (λ c. search needs) (λ c κs. search needs) put-settings-requires put-two-requires put-axes-requires put-requires (λ c. returns c .long) returns)

@@ -18,8 +18,8 @@ put-point-requires c κs =
     let w2 = c .before .before .before .put-natural2 .ensures in
     omega (arith, s .pre, w1 .room, w1 .long, w2 .room, w2 .long)
 
-put-reported-requires : tie.Need-put-reported-requires
-put-reported-requires c κs =
+put-motion-reported-requires : tie.Need-put-motion-reported-requires
+put-motion-reported-requires c κs =
     let s = c .before .before .before .before .before .before .before .before .before .before .before .before .before .before .before .before .before .before in
     let w1 = c .before .before .before .before .before .before .before .before .before .before .before .before .put-natural .ensures in
     let w2 = c .before .before .before .before .before .before .before .put-natural2 .ensures in
@@ -31,8 +31,8 @@ returns c =
     let w1 = c .before .before .before .before .before .before .before .before .before .before .before .before .before .before .before .put-natural .ensures in
     let w2 = c .before .before .before .before .before .before .before .before .before .before .put-natural2 .ensures in
     let w3 = c .before .before .before .before .before .before .put-point .ensures in
-    let w4 = c .before .before .put-reported .ensures in
+    let w4 = c .before .before .put-motion-reported .ensures in
     then (then (then w1 w2) w3) w4
 
 pub put-values-spec : {M : Type 1} → statement M
-put-values-spec = tie.close (tie.spec (λ c. search needs) (λ c κs. search needs) (λ c. search needs) put-natural-requires-2 put-point-requires put-reported-requires (λ c. returns c .long) returns)
+put-values-spec = tie.close (tie.spec (λ c. search needs) (λ c κs. search needs) (λ c. search needs) put-natural-requires-2 put-point-requires put-motion-reported-requires (λ c. returns c .long) returns)

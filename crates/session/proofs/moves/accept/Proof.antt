@@ -14,14 +14,15 @@ use Rattle.session.proofs.moves.accept.Tie as tie
 returns : tie.Need-returns
 unfolding acceptedAt
 returns c =
-    let a = c .before .before .before .before .before .before .before .args in
+    let d = c .before in
+    let a = d .before .before .before .before .before .before .before .args in
     let fx : SFits w64 (a .w .x) = search needs in
     let fy : SFits w64 (a .w .y) = search needs in
-    let fz : SFits w64 (a .w .z) = search needs in
+    let fz : SFits w64 (a .w .z) = search (needs, d .before .before .struct-told3 .given) in
     let s = a .s in
-    let x = c .before .before .before .before .before .advanced-axis .ensures ∙ ap (advancedAxis (s .points) (s .x)) (toZ-ofZ fx) in
-    let y = c .before .before .before .advanced-axis2 .ensures ∙ ap (advancedAxis (s .points) (s .y)) (toZ-ofZ fy) in
-    let z = c .before .advanced-axis3 .ensures ∙ ap (advancedAxis (s .points) (s .z)) (toZ-ofZ fz) in
+    let x = d .before .before .before .before .before .advanced-axis .ensures ∙ ap (advancedAxis (s .points) (s .x)) (toZ-ofZ fx) in
+    let y = d .before .before .before .advanced-axis2 .ensures ∙ ap (advancedAxis (s .points) (s .y)) (toZ-ofZ fy) in
+    let z = d .before .advanced-axis3 .ensures ∙ ap (advancedAxis (s .points) (s .z)) (toZ-ofZ fz) in
     λ i. became s Settled (s .accepted + 1) 0 (x i) (y i) (z i)
 
 pub accept-spec : {M : Type 1} → statement M

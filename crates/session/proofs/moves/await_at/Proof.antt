@@ -5,7 +5,7 @@ use Rattle.session.proofs.moves.await_at.Tie as tie
 
 returns : tie.Need-returns
 unfolding awaitingAt
-returns c = rw (c .before .before .with-estimate .ensures, c .before .with-estimate2 .ensures, c .with-estimate3 .ensures)
+returns c = let d = c .before in rw (d .before .before .with-estimate .ensures, d .before .with-estimate2 .ensures, d .with-estimate3 .ensures)
 
 pub await-at-spec : {M : Type 1} → statement M
 await-at-spec = tie.close (tie.spec (λ c κs. tt) (λ c κs. tt) (λ c κs. tt) returns)

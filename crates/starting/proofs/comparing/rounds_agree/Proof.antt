@@ -15,10 +15,10 @@ use Rattle.starting.proofs.comparing.rounds_agree.Statement.{statement}
 use Rattle.starting.proofs.comparing.rounds_agree.Tie as tie
 
 abbrev Inv-loop : tie.InvT-loop
-Inv-loop tolerance r before n j₀ j = (j ≤ n) × (everyBelow j (λ j. pointsAgree tolerance (earlierPoint r j) (earlierPoint before j)) ≡ true)
+Inv-loop tolerances r before n j₀ j = (j ≤ n) × (everyBelow j (λ j. pointsAgree tolerances (earlierPoint r j) (earlierPoint before j)) ≡ true)
 
 abbrev μ-loop : tie.MeasureT-loop
-μ-loop tolerance r before n j₀ j = n - j
+μ-loop tolerances r before n j₀ j = n - j
 
 loop-holds : tie.Need-loop-holds Inv-loop μ-loop
 unfolding everyBelow
@@ -38,22 +38,22 @@ points-agree-requires c κs =
     (l .before .pre .0, (rw (c .before .earlier-point .ensures) (round-placed (a .r) (h .1 .0) (l .loop .j) (omega arith)), rw (c .earlier-point2 .ensures) (round-placed (a .before) (h .1 .1) (l .loop .j) (subst (λ n. l .loop .j < n) (h .0) (omega arith)))))
 
 -- the test of this turn
-agree-here : (c : tie.After-points-agree Inv-loop μ-loop) → let l = c .before .before .before .before in let a = l .before .args in c .points-agree .result ≡ pointsAgree (a .tolerance) (earlierPoint (a .r) (l .loop .j)) (earlierPoint (a .before) (l .loop .j))
-agree-here c = c .points-agree .ensures ∙ ap₂ (pointsAgree (c .before .before .before .before .before .args .tolerance)) (c .before .before .earlier-point .ensures) (c .before .earlier-point2 .ensures)
+agree-here : (c : tie.After-points-agree Inv-loop μ-loop) → let l = c .before .before .before .before in let a = l .before .args in c .points-agree .result ≡ pointsAgree (a .tolerances) (earlierPoint (a .r) (l .loop .j)) (earlierPoint (a .before) (l .loop .j))
+agree-here c = c .points-agree .ensures ∙ ap₂ (pointsAgree (c .before .before .before .before .before .args .tolerances)) (c .before .before .earlier-point .ensures) (c .before .earlier-point2 .ensures)
 
 returns : tie.Need-returns Inv-loop μ-loop
 unfolding roundsAgree
 returns c =
     let l = c .before .before .before .before .before in
     let a = l .before .args in
-    every-fails (λ j. pointsAgree (a .tolerance) (earlierPoint (a .r) j) (earlierPoint (a .before) j)) (a .r .points) (l .loop .j) (omega arith) (failed (agree-here (c .before)) (c .if1 .taken))
+    every-fails (λ j. pointsAgree (a .tolerances) (earlierPoint (a .r) j) (earlierPoint (a .before) j)) (a .r .points) (l .loop .j) (omega arith) (failed (agree-here (c .before)) (c .if1 .taken))
 
 loop-again : tie.Need-loop-again Inv-loop μ-loop
 loop-again c =
     let l = c .before .before .before .before .before in
     let a = l .before .args in (
       search needs,
-      rw (add-one (l .loop .j)) (every-more (λ j. pointsAgree (a .tolerance) (earlierPoint (a .r) j) (earlierPoint (a .before) j)) (l .loop .j) (l .loop .inv .1) (passed (agree-here (c .before)) (c .if1 .left))),
+      rw (add-one (l .loop .j)) (every-more (λ j. pointsAgree (a .tolerances) (earlierPoint (a .r) j) (earlierPoint (a .before) j)) (l .loop .j) (l .loop .inv .1) (passed (agree-here (c .before)) (c .if1 .left))),
     )
 
 returns-2 : tie.Need-returns-2 Inv-loop μ-loop
@@ -62,7 +62,7 @@ returns-2 c =
     let l = c .before in
     let a = l .before .args in
     let e : l .loop .j ≡ a .r .points = omega arith in
-    sym (l .loop .inv .1) ∙ ap (λ n. everyBelow n (λ j. pointsAgree (a .tolerance) (earlierPoint (a .r) j) (earlierPoint (a .before) j))) e
+    sym (l .loop .inv .1) ∙ ap (λ n. everyBelow n (λ j. pointsAgree (a .tolerances) (earlierPoint (a .r) j) (earlierPoint (a .before) j))) e
 
 pub rounds-agree-spec : {M : Type 1} → statement M
 rounds-agree-spec =

@@ -6,7 +6,6 @@ use borrow.Author.Needs.{needs}
 use borrow.Author.Tests.{le-leb, lt-leb}
 use Rattle.integers.specs.Tests.{firstOf}
 use Rattle.ticks.specs.declared.WholeSample.{WholeSample}
-use Rattle.axis.proofs.Agreement.{size-reports}
 use Rattle.session.specs.declared.Point.{Point}
 use Rattle.session.specs.declared.Session.{Session}
 use Rattle.session.specs.Moves.{correctedPoint, pointInRange, settledAgain, awaitingAt, acceptedAt}
@@ -16,7 +15,7 @@ use Rattle.steps.specs.declared.Correction.the-variants as C
 use Rattle.steps.specs.Answers.{reportedPoint, reportedChange}
 use Rattle.steps.specs.Refusals.{agrees, largestChange, isLast, pointRules}
 use Rattle.steps.specs.Steps.{correctBy}
-use Rattle.steps.proofs.Changes.{largest-within}
+use Rattle.steps.proofs.Changes.{sizes-report, largest-within}
 use Rattle.steps.proofs.corrects.judge.Statement.{statement}
 use Rattle.steps.proofs.corrects.judge.Tie as tie
 
@@ -62,12 +61,12 @@ largest-change-requires c κs =
     let a = d .args in
     (d .pre .0, placed (a .s) (a .w) (a .q) (d .pre .1 .1 .0) (d .pre .1 .1 .1))
 
-reported-requires : tie.Need-reported-requires
-reported-requires c κs =
+report-motion-requires : tie.Need-report-motion-requires
+report-motion-requires c κs =
     let d = c .before .before .before .before .before .before .before in
     let a = d .args in
     rw (c .largest-change .ensures)
-    (size-reports (largestChange (a .s) (a .q)) (largest-within (a .s) (a .q) (d .pre .0) (placed (a .s) (a .w) (a .q) (d .pre .1 .1 .0) (d .pre .1 .1 .1))))
+    (sizes-report (largestChange (a .s) (a .q)) (largest-within (a .s) (a .q) (d .pre .0) (placed (a .s) (a .w) (a .q) (d .pre .1 .1 .0) (d .pre .1 .1 .1))))
 
 returns-3 : tie.Need-returns-3
 unfolding isLast reportedChange
@@ -75,7 +74,7 @@ returns-3 c =
     let b = c .before .before .before .before .before .before in
     let d = b .before .before .before in
     let a = d .args in
-    rw (c .await-at .ensures, b .before .before .report-point .ensures, c .before .reported .ensures, c .before .before .largest-change .ensures)
+    rw (c .await-at .ensures, b .before .before .report-point .ensures, c .before .report-motion .ensures, c .before .before .largest-change .ensures)
     (sym (again (a .s) (a .w) (a .q) (d .pre .1 .1 .0) (d .pre .1 .1 .1) (sym (b .before .is-agreed .ensures) ∙ b .if1 .left) (lt-leb _ _ (c .before .before .before .if2 .left))))
 
 pub judge-spec : {M : Type 1} → statement M
@@ -90,6 +89,6 @@ judge-spec =
     (λ c κs. tt)
     returns-2
     largest-change-requires
-    reported-requires
+    report-motion-requires
     (λ c κs. tt)
     returns-3)

@@ -1,7 +1,6 @@
--- `steps::corrects::largest_change` meets its contract: the change from the last estimate.
+-- `steps::corrects::largest_change` meets its contract: the changes from the last estimate.
 use mathlib.Core.Path.{_∙_, ap}
-use lib.IntN.{pos}
-use Rattle.exact.specs.Numerator.{exactOf}
+use Rattle.axis.specs.Agreement.{sizes}
 use Rattle.session.specs.Apart.{pointChange}
 use Rattle.session.proofs.Kept.{estimate-point-placed}
 use Rattle.steps.specs.Refusals.{largestChange}
@@ -13,7 +12,7 @@ point-change-requires c κs = let b = c .before in (b .pre .1, rw (c .estimate-o
 
 returns : tie.Need-returns
 unfolding largestChange
-returns c = c .point-change .ensures ∙ ap (λ e. exactOf (pos (pointChange (c .before .before .args .q) e))) (c .before .estimate-of .ensures)
+returns c = c .point-change .ensures ∙ ap (λ e. sizes (pointChange (c .before .before .args .q) e)) (c .before .estimate-of .ensures)
 
 pub largest-change-spec : {M : Type 1} → statement M
 largest-change-spec = tie.close (tie.spec (λ c κs. tt) point-change-requires returns)

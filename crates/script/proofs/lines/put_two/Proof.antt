@@ -1,9 +1,9 @@
--- `script::lines::put_counts` stays within its room: two numbers.
+-- `script::lines::put_two` stays within its room: two numbers.
 use native.Mathlib.Omega.{arith}
 use borrow.Author.Needs.{needs}
 use Rattle.script.specs.Rooms.{then}
-use Rattle.script.proofs.lines.put_counts.Statement.{statement}
-use Rattle.script.proofs.lines.put_counts.Tie as tie
+use Rattle.script.proofs.lines.put_two.Statement.{statement}
+use Rattle.script.proofs.lines.put_two.Tie as tie
 
 put-natural-requires-2 : tie.Need-put-natural-requires-2
 put-natural-requires-2 c κs =
@@ -17,5 +17,5 @@ returns c =
     let w2 = c .before .before .put-natural2 .ensures in
     then w1 w2
 
-pub put-counts-spec : {M : Type 1} → statement M
-put-counts-spec = tie.close (tie.spec (λ c κs. search needs) put-natural-requires-2 (λ c. returns c .long) returns)
+pub put-two-spec : {M : Type 1} → statement M
+put-two-spec = tie.close (tie.spec (λ c κs. search needs) put-natural-requires-2 (λ c. returns c .long) returns)
