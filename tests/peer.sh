@@ -8,4 +8,4 @@ if [ ! -x "$program" ]; then
     echo "tests/peer.sh: no program $program: run 'rt check' first" >&2
     exit 2
 fi
-peer/figures --replay "$program" && peer/marathon && peer/examples && peer/check --calls 200000
+peer/figures --replay "$program" && peer/marathon && peer/examples && peer/scripts && peer/check --calls 200000

@@ -1,28 +1,22 @@
--- The changes between two motions: each has a report, is 0 between equal ones, and is within its tolerance exactly when they agree.
+-- Two motions: those that are the same are equal, their changes have reports, and sizes as exact values.
 use mathlib.Core.Path.{_≡_, refl, ap}
-use mathlib.Core.Logic.{_↔_}
 use mathlib.Core.Bool.{true}
-use Prim.Native.Nat.{ℕ, _*_, _^_, _≤_, max, zero-le}
+use Prim.Native.Nat.{ℕ, _*_, _^_, _≤_, max}
 use native.Mathlib.Omega.{arith}
-use borrow.Author.Tests.{leb-true, le-leb}
-use lib.IntN.{natAbs, pos, _-ℤ_, +ℤ-invr}
-use Rattle.integers.specs.Tests.{_and_, joined}
+use lib.IntN.{natAbs, pos, _-ℤ_}
+use Rattle.integers.specs.Tests.{joined}
 use Rattle.integers.specs.Parts.{natAbs-parts, one-part, difference-parts}
 use Rattle.exact.specs.Numerator.{D, exactOf, numerator, Bounded}
-use Rattle.exact.specs.Laws.{part-below, same-true, same-refl, larger-size}
+use Rattle.exact.specs.Laws.{part-below, same-true, larger-size}
 use Rattle.exact.specs.Bounds.{numerator-within, widen}
 use Rattle.axis.specs.declared.Motion.{Motion}
-use Rattle.axis.specs.declared.Tolerances.{Tolerances}
 use Rattle.axis.specs.Formulas.{motionOf, still}
 use Rattle.axis.specs.Estimates.{sameMotion}
-use Rattle.axis.specs.Agreement.{Kind, ofPosition, ofVelocity, valueOf, toleranceOf, apartBy, changeOf, sizes, largerMotion, within, agreesOn}
+use Rattle.axis.specs.Kinds.{Kind, ofPosition, ofVelocity, valueOf}
+use Rattle.axis.specs.Agreement.{changeOf, sizes, largerMotion}
 use Rattle.axis.specs.Ready.{Placed, Proper}
 
 -- ---- equal motions
-
-pub same-motion : (m : Motion) → sameMotion m m ≡ true
-unfolding sameMotion
-same-motion m = simp joined (same-refl (m .position), same-refl (m .velocity))
 
 pub motions-same : (m n : Motion) → sameMotion m n ≡ true → m ≡ n
 unfolding sameMotion
@@ -31,10 +25,6 @@ motions-same m n t =
     λ i. record { position = same-true (m .position) (n .position) p i; velocity = same-true (m .velocity) (n .velocity) v i }
 
 -- ---- changes
-
-pub no-change : (m : Motion) (kind : Kind) → changeOf m m kind ≡ 0
-unfolding changeOf
-no-change m kind = ap natAbs (+ℤ-invr (numerator (valueOf kind m)))
 
 -- a position and a velocity in range are at most 2^52 ticks from 0
 placed-value : (m : Motion) → Placed m → (kind : Kind) → Bounded (2 ^ 52) (valueOf kind m)
@@ -57,35 +47,19 @@ size-reports n h = omega arith
 -- ---- sizes as exact values
 
 pub sizes-proper : (size : Kind → ℕ) → Proper (sizes size)
-unfolding sizes motionOf
+unfolding sizes
 sizes-proper size = record { position = part-below (pos (size ofPosition)); velocity = part-below (pos (size ofVelocity)) }
 
 -- no change of either kind
 pub still-sizes : still ≡ sizes (λ kind. 0)
-unfolding still sizes
+unfolding still sizes motionOf
 still-sizes = refl
 
 -- the larger of two sizes, as a caller knows it: by a contract
 pub larger-sizes : (f g : Kind → ℕ) {r a b : Motion} → r ≡ largerMotion a b → a ≡ sizes f → b ≡ sizes g → r ≡ sizes (λ kind. max (f kind) (g kind))
-unfolding largerMotion sizes motionOf
+unfolding largerMotion sizes
 larger-sizes f g p a b =
     λ i. record {
       position = larger-size (f ofPosition) (g ofPosition) (ap (λ m. m .position) p) (ap (λ m. m .position) a) (ap (λ m. m .position) b) i;
       velocity = larger-size (f ofVelocity) (g ofVelocity) (ap (λ m. m .velocity) p) (ap (λ m. m .velocity) a) (ap (λ m. m .velocity) b) i;
     }
-
--- ---- agreement
-
-pub agrees-iff : (t : Tolerances) (m n : Motion) → (agreesOn t m n ≡ true) ↔ ((kind : Kind) → changeOf m n kind ≤ toleranceOf kind t * D)
-unfolding agreesOn changeOf
-agrees-iff t m n = (there, back)
-  where
-    there : (within (t .position) (m .position) (n .position) and within (t .velocity) (m .velocity) (n .velocity)) ≡ true → (kind : Kind) → apartBy (valueOf kind m) (valueOf kind n) ≤ toleranceOf kind t * D
-    there h ofPosition = let (p, v) = simp joined at h in leb-true _ _ p
-    there h ofVelocity = let (p, v) = simp joined at h in leb-true _ _ v
-
-    back : ((kind : Kind) → apartBy (valueOf kind m) (valueOf kind n) ≤ toleranceOf kind t * D) → (within (t .position) (m .position) (n .position) and within (t .velocity) (m .velocity) (n .velocity)) ≡ true
-    back h = simp joined (le-leb _ _ (h ofPosition), le-leb _ _ (h ofVelocity))
-
-pub agrees-same : (t : Tolerances) (m : Motion) → agreesOn t m m ≡ true
-agrees-same t m = agrees-iff t m m .1 (λ kind. rw (no-change m kind) zero-le)

@@ -13,7 +13,7 @@ use Rattle.coefficients.specs.Formulas.{largest}
 use Rattle.coefficients.proofs.Samples.{cons}
 use Rattle.axis.specs.declared.Motion.{Motion}
 use Rattle.axis.specs.declared.Axis.{Axis}
-use Rattle.axis.specs.Formulas.{motionOf, still, places, keptSamples, presentMotion, correctedMotion, advancedAxis, openedAxis}
+use Rattle.axis.specs.Formulas.{axisWith, motionOf, still, places, keptSamples, presentMotion, correctedMotion, advancedAxis, openedAxis}
 use Rattle.axis.specs.Estimates.{inRange, estimating}
 use Rattle.axis.specs.Holding.{remaindersHold, placesHold, axisHolds}
 use Rattle.axis.specs.Ready.{Placed}
@@ -45,8 +45,7 @@ still-placed = placed still (lit< tt) (lit< tt) refl
 -- ---- sums that were worked out, with places that hold and a present point in range, and no estimate
 
 made-holds : (p : ℕ) (m n : ℤ) (xs : List ℤ) → placesHold p xs ≡ true
-    → inRange (presentMotion p (record { first = exactOf m; second = exactOf n; samples = xs; estimate = still })) ≡ true
-    → axisHolds p (record { first = exactOf m; second = exactOf n; samples = xs; estimate = still }) ≡ true
+    → inRange (presentMotion p (axisWith (exactOf m) (exactOf n) xs still)) ≡ true → axisHolds p (axisWith (exactOf m) (exactOf n) xs still) ≡ true
 made-holds p m n xs x r =
     axis-holds p _ (record { first = part-below m; second = part-below n; position = still-placed .position .small; velocity = still-placed .velocity .small })
     x r (placed-in-range still still-placed)

@@ -5,7 +5,7 @@ use mathlib.Core.Bool.{true, and-eq-true-iff}
 use Prim.Native.Nat.{ℕ, _+_, _^_, _≤_, _<_}
 use borrow.Author.Tests.{ltb-true}
 use lib.IntN.{ℤ}
-use Rattle.integers.specs.Tests.{_and_, joined}
+use Rattle.integers.specs.Tests.{joined}
 use Rattle.integers.specs.Parts.{integers}
 use Rattle.integers.specs.Differences.{at, byDifferences}
 use Rattle.exact.specs.declared.Exact.{Exact}
@@ -124,14 +124,14 @@ module _ (p : ℕ) (a : Axis) (t : axisHolds p a ≡ true) where
 
 -- ---- an axis holds exactly when it keeps each rule
 
-pub record KeepsRules (p : ℕ) (a : Axis) : Type 0 where
+pub record KeepsAxis (p : ℕ) (a : Axis) : Type 0 where
   pub remainders : remaindersHold a ≡ true
   pub samples : samplesSmall (a .samples) ≡ true
   pub empty-places : emptyZero p (a .samples) ≡ true
   pub present-point : inRange (presentMotion p a) ≡ true
   pub estimate : inRange (a .estimate) ≡ true
 
-pub holds-by-rules : (p : ℕ) (a : Axis) → (axisHolds p a ≡ true) ↔ KeepsRules p a
+pub holds-by-rules : (p : ℕ) (a : Axis) → (axisHolds p a ≡ true) ↔ KeepsAxis p a
 unfolding axisHolds
 holds-by-rules p a = (
   (λ t.

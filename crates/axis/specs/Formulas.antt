@@ -5,6 +5,7 @@ use mathlib.Core.List.{List, _∷_, _++_}
 use lib.IntN.{ℤ, pos, _+ℤ_, _-ℤ_, _*ℤ_}
 use lib.ListN.{take, replicate}
 use Rattle.integers.specs.Differences.{at, byDifferences, inFront}
+use Rattle.exact.specs.declared.Exact.{Exact}
 use Rattle.exact.specs.Numerator.{D, exactOf, numerator}
 use Rattle.coefficients.specs.Formulas.{positionPredictor, positionCorrector, velocityPredictor, velocityCorrector}
 use Rattle.axis.specs.declared.Motion.{Motion}
@@ -19,6 +20,10 @@ S1 a = numerator (a .first)
 
 abbrev pub S2 : Axis → ℤ
 S2 a = numerator (a .second)
+
+-- an axis by its sums S1 and S2, its samples and its estimate: every axis is made by this
+abbrev pub axisWith : Exact → Exact → List ℤ → Motion → Axis
+axisWith first second samples estimate = record { first = first; second = second; samples = samples; estimate = estimate }
 
 -- a position and a velocity, by their numerators
 unfoldable pub motionOf : ℤ → ℤ → Motion
@@ -62,12 +67,11 @@ keptSamples p sample xs = places p (sample ∷ xs)
 
 unfoldable pub advancedAxis : ℕ → Axis → ℤ → Axis
 advancedAxis p a sample =
-    record {
-      first = exactOf (S1 a +ℤ ticks sample);
-      second = exactOf (S2 a +ℤ (S1 a +ℤ ticks sample));
-      samples = keptSamples p sample (a .samples);
-      estimate = still;
-    }
+    axisWith
+    (exactOf (S1 a +ℤ ticks sample))
+    (exactOf (S2 a +ℤ (S1 a +ℤ ticks sample)))
+    (keptSamples p sample (a .samples))
+    still
 
 -- ---- the point 0: S1(0) and S2(-1) are what the corrector's sums leave of the velocity and the position given; S2(0) = S2(-1) + S1(0)
 
@@ -75,9 +79,9 @@ unfoldable pub openedAxis : ℕ → Motion → List ℤ → Axis
 openedAxis p point xs =
     let s1 = numerator (point .velocity) -ℤ byDifferences (velocityCorrector p) (at xs) in
     let s2 = numerator (point .position) -ℤ byDifferences (positionCorrector p) (at xs) in
-    record { first = exactOf s1; second = exactOf (s2 +ℤ s1); samples = xs; estimate = still }
+    axisWith (exactOf s1) (exactOf (s2 +ℤ s1)) xs still
 
 -- ---- no point at all
 
 unfoldable pub emptyAxis : Axis
-emptyAxis = record { first = exactOf (pos 0); second = exactOf (pos 0); samples = replicate 9 (pos 0); estimate = still }
+emptyAxis = axisWith (exactOf (pos 0)) (exactOf (pos 0)) (replicate 9 (pos 0)) still

@@ -1,4 +1,5 @@
 -- What the contracts of `axis` cite.
+pub mod Kinds
 pub mod Formulas
 pub mod Estimates
 pub mod Agreement

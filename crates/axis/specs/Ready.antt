@@ -5,6 +5,7 @@ use Rattle.coefficients.specs.Formulas.{Small}
 use Rattle.axis.specs.declared.Axis.{Axis}
 use Rattle.axis.specs.declared.Motion.{Motion}
 use Rattle.axis.specs.declared.Tolerances.{Tolerances}
+use Rattle.axis.specs.Kinds.{ofPosition, ofVelocity, rangeOf}
 
 pub record Ready (p : ℕ) (a : Axis) : Type 0 where
   pub some : (1 ≤ p) × (p ≤ 9)
@@ -14,8 +15,8 @@ pub record Ready (p : ℕ) (a : Axis) : Type 0 where
 
 -- a position and a velocity in range
 pub record Placed (m : Motion) : Type 0 where
-  pub position : Bounded (2 ^ 52) (m .position)
-  pub velocity : Bounded (2 ^ 40) (m .velocity)
+  pub position : Bounded (rangeOf ofPosition) (m .position)
+  pub velocity : Bounded (rangeOf ofVelocity) (m .velocity)
 
 -- both remainders are from 0 to D-1
 pub record Proper (m : Motion) : Type 0 where

@@ -5,7 +5,8 @@ use exact::Exact;
 ghost use mathlib.Core.Path.{_≡_};
 ghost use Prim.Native.Nat.{_^_, _≤_};
 ghost use Rattle.exact.specs.Numerator.{Bounded};
-ghost use Rattle.axis.specs.Agreement.{within, agreesOn, changeOf, sizes, largerMotion};
+ghost use Rattle.axis.specs.Kinds.{within};
+ghost use Rattle.axis.specs.Agreement.{agreesOn, changeOf, sizes, largerMotion};
 ghost use Rattle.axis.specs.Ready.{Placed, Proper, Tolerable};
 
 fn is_within(tolerance: u64, e: Exact, before: Exact) -> bool

@@ -1,21 +1,15 @@
 // Estimates: the one that an axis holds, equality and the range.
 use crate::Axis;
 use crate::Motion;
+use crate::formulas;
 ghost use mathlib.Core.Path.{_≡_};
 ghost use Rattle.axis.specs.Estimates.{estimating, sameMotion, inRange};
 
 pub fn with_estimate(a: Axis, estimate: Motion) -> Axis
     ensures { λ r. ⌜ r ≡ estimating a estimate ⌝ }
 {
-    let first = a.first;
-    let second = a.second;
     let samples = a.samples;
-    Axis {
-        first,
-        second,
-        samples,
-        estimate,
-    }
+    formulas::axis_with(a.first, a.second, samples, estimate)
 }
 
 pub fn same_motion(a: Motion, b: Motion) -> bool

@@ -8,8 +8,21 @@ ghost use Prim.Native.Nat.{_≤_, _^_};
 ghost use lib.IntN.{natAbs, _+ℤ_, _-ℤ_};
 ghost use Rattle.coefficients.specs.Formulas.{Small};
 ghost use Rattle.exact.specs.Numerator.{exactOf, numerator, Bounded};
-ghost use Rattle.axis.specs.Formulas.{ticks, still, presentMotion, predictedMotion, correctedMotion, keptSamples, advancedAxis, openedAxis, emptyAxis};
+ghost use Rattle.axis.specs.Formulas.{ticks, axisWith, still, emptyAxis};
+ghost use Rattle.axis.specs.Formulas.{presentMotion, predictedMotion, correctedMotion, keptSamples, advancedAxis, openedAxis};
 ghost use Rattle.axis.specs.Ready.{Ready, Placed};
+
+// Every axis is made by this.
+pub fn axis_with(first: Exact, second: Exact, samples: [i64; 9], estimate: Motion) -> Axis
+    ensures { λ r. ⌜ r ≡ axisWith first second samples estimate ⌝ }
+{
+    Axis {
+        first,
+        second,
+        samples,
+        estimate,
+    }
+}
 
 // A sum, and a change given by its numerator.
 pub fn moved(sum: Exact, change: i64) -> Exact
@@ -95,13 +108,7 @@ pub fn advanced_axis(p: usize, a: Axis, sample: i64) -> Axis
     let samples = keep_samples(p, sample, old);
     let first = next_first(a.first, sample);
     let second = a.second.add(first);
-    let estimate = no_motion();
-    Axis {
-        first,
-        second,
-        samples,
-        estimate,
-    }
+    axis_with(first, second, samples, no_motion())
 }
 
 // What a change, given by its numerator, leaves of a value.
@@ -122,13 +129,7 @@ pub fn opened_axis(p: usize, point: Motion, samples: [i64; 9]) -> Axis
     let first = left_of(point.velocity, coefficients::velocity_corrector(p, samples));
     let before = left_of(point.position, coefficients::position_corrector(p, samples));
     let second = before.add(first);
-    let estimate = no_motion();
-    Axis {
-        first,
-        second,
-        samples,
-        estimate,
-    }
+    axis_with(first, second, samples, no_motion())
 }
 
 pub fn no_motion() -> Motion
@@ -143,11 +144,5 @@ pub fn no_motion() -> Motion
 pub fn empty_axis() -> Axis
     ensures { λ r. ⌜ r ≡ emptyAxis ⌝ }
 {
-    let estimate = no_motion();
-    Axis {
-        first: Exact::ZERO,
-        second: Exact::ZERO,
-        samples: [0i64; 9],
-        estimate,
-    }
+    axis_with(Exact::ZERO, Exact::ZERO, [0i64; 9], no_motion())
 }

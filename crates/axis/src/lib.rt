@@ -13,6 +13,7 @@ pub use estimates::in_range;
 pub use estimates::same_motion;
 pub use estimates::with_estimate;
 pub use formulas::advanced_axis;
+pub use formulas::axis_with;
 pub use formulas::corrected_motion;
 pub use formulas::empty_axis;
 pub use formulas::left_of;

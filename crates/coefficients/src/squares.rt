@@ -66,7 +66,7 @@ const POSITION_PREDICTOR: [[i64; 9]; 9] = [
     ],
 ];
 
-pub fn position_predictor(p: usize) -> [i64; 9]
+pub fn position_predictor_row(p: usize) -> [i64; 9]
     requires { ⌜ (1 ≤ p) × (p ≤ 9) ⌝ }
     ensures { λ r. ⌜ r ≡ row positionPredictor p ⌝ }
 {
@@ -136,7 +136,7 @@ const POSITION_CORRECTOR: [[i64; 9]; 9] = [
     ],
 ];
 
-pub fn position_corrector(p: usize) -> [i64; 9]
+pub fn position_corrector_row(p: usize) -> [i64; 9]
     requires { ⌜ (1 ≤ p) × (p ≤ 9) ⌝ }
     ensures { λ r. ⌜ r ≡ row positionCorrector p ⌝ }
 {
@@ -216,7 +216,7 @@ const VELOCITY_PREDICTOR: [[i64; 9]; 9] = [
     ],
 ];
 
-pub fn velocity_predictor(p: usize) -> [i64; 9]
+pub fn velocity_predictor_row(p: usize) -> [i64; 9]
     requires { ⌜ (1 ≤ p) × (p ≤ 9) ⌝ }
     ensures { λ r. ⌜ r ≡ row velocityPredictor p ⌝ }
 {
@@ -296,7 +296,7 @@ const VELOCITY_CORRECTOR: [[i64; 9]; 9] = [
     ],
 ];
 
-pub fn velocity_corrector(p: usize) -> [i64; 9]
+pub fn velocity_corrector_row(p: usize) -> [i64; 9]
     requires { ⌜ (1 ≤ p) × (p ≤ 9) ⌝ }
     ensures { λ r. ⌜ r ≡ row velocityCorrector p ⌝ }
 {

@@ -6,7 +6,7 @@ use Prim.Native.Nat.{ℕ, zero, suc, _≤_}
 use native.Mathlib.Omega.{arith}
 use lib.Dec.{leb}
 use lib.ListN.{length, length-map}
-use Rattle.integers.specs.Tests.{firstOf}
+use Rattle.rules.specs.Rules.{firstOf}
 use Rattle.ticks.specs.declared.WholeSample.{WholeSample}
 use Rattle.session.specs.declared.Point.{Point}
 use Rattle.session.specs.declared.Session.{Session}
@@ -22,7 +22,7 @@ use Rattle.steps.specs.Steps.{predictBy, predictOf}
 use Rattle.demands.specs.Histories.{ours, Call, after, history, entries, samplesOf}
 use Rattle.demands.specs.ClosedForm.{Origin, Begins, Stands}
 use Rattle.demands.specs.Demands.{SamePoint}
-use Rattle.demands.proofs.Parts.{point-by}
+use Rattle.session.proofs.Coordinates.{point-by}
 use Rattle.demands.proofs.Standing.{points-most, present-is, prediction-is}
 use Rattle.demands.proofs.Invariant.{invariant}
 

@@ -8,7 +8,7 @@ use lib.Ieee.{Float}
 use lib.ListN.{getD}
 use Rattle.integers.specs.Differences.{at, byDifferences}
 use Rattle.exact.specs.Numerator.{D}
-use Rattle.coefficients.specs.Fraction.{_over_, _≐_}
+use Rattle.coefficients.specs.Fraction.{_≐_, _over_}
 use Rattle.coefficients.specs.Rules.{l}
 use Rattle.coefficients.specs.Formulas.{unsummedCowell, adamsMoulton, series}
 use Rattle.ticks.specs.Round.{roundedOf, ticksIn}
@@ -17,22 +17,22 @@ use Rattle.session.specs.declared.Session.{Session}
 use Rattle.session.specs.Moves.{correctedPoint, settledAgain, closedSession}
 use Rattle.session.proofs.Rules.{resting}
 use Rattle.session.proofs.Kept.{closed-fails}
-use Rattle.steps.specs.Answers.{NotZero}
+use Rattle.rules.specs.Rules.{NotZero, Unrefused}
 use Rattle.steps.specs.Steps.{predictOf, correctOf, withdrawOf}
-use Rattle.demands.specs.Coordinates.{onX}
+use Rattle.session.specs.Coordinates.{onX}
 use Rattle.demands.specs.Histories.{ours, predict, step, event, after, history, entries}
-use Rattle.demands.specs.Refusals.{Unrefused, Within, correctTable, withdrawTable}
+use Rattle.demands.specs.Refusals.{Within, correctTable, withdrawTable}
 use Rattle.demands.specs.ClosedForm.{origin}
 use Rattle.demands.specs.Demands.{sample, secondDifference, SamePoint, Agree}
 use Rattle.demands.specs.BadVersions.{refusing}
 use Rattle.demands.specs.Theorems.{Alike, OfOpenings, refused7}
 use Rattle.demands.proofs.Theorems.{our-calls, any-calls}
 use Rattle.demands.proofs.Rounds.{closed-not-starting}
-use Rattle.demands.proofs.Tables.{agreement, correct-table, withdraw-table}
 use Rattle.demands.proofs.Opens.{number-is, open-begins}
-use Rattle.demands.proofs.Ours.{predict-number, correct-number, withdraw-number}
+use Rattle.demands.proofs.Ours.{predict-number, correct-number, withdraw-number, correct-none, withdraw-none}
 use Rattle.demands.proofs.TurnedDown.{begins}
 use Rattle.demands.proofs.Examples.{h3, widest, wide, narrow, turning, once, none, start, a24, round, waiting, settledOnce, two, twice, computed}
+use Rattle.demands.proofs.Conditions.{agreement}
 
 -- a number that was computed is the answer's
 given : {m n : ℕ} → m ≡ n → NotZero n → NotZero m
@@ -67,16 +67,14 @@ unwithdrawn = our-calls .demand1 .unwithdrawn (start wide) (given (withdraw-numb
 
 accepted : Unrefused (correctTable (waiting wide) a24) × Within (waiting wide) (correctedPoint (waiting wide) (wholeOf a24))
 accepted =
-    let (_, (_, (_, (_, (_, no-rule))))) = correct-table (waiting wide) a24 in
-    (no-rule .0 (computed .corrects), agreement (waiting wide) (correctedPoint (waiting wide) (wholeOf a24)) .yes .0 (computed .agreeing))
+    (correct-none (waiting wide) a24 .0 (computed .corrects), agreement (waiting wide) (correctedPoint (waiting wide) (wholeOf a24)) .yes .0 (computed .agreeing))
 
 again : Unrefused (correctTable (waiting narrow) a24) × (¬ Within (waiting narrow) (correctedPoint (waiting narrow) (wholeOf a24)))
 again =
-    let (_, (_, (_, (_, (_, no-rule))))) = correct-table (waiting narrow) a24 in
-    (no-rule .0 (computed .correctsAgain), agreement (waiting narrow) (correctedPoint (waiting narrow) (wholeOf a24)) .no .0 (computed .differing))
+    (correct-none (waiting narrow) a24 .0 (computed .correctsAgain), agreement (waiting narrow) (correctedPoint (waiting narrow) (wholeOf a24)) .no .0 (computed .differing))
 
 withdrawn : Unrefused (withdrawTable (waiting wide))
-withdrawn = let (_, no-rule) = withdraw-table (waiting wide) in no-rule .0 (computed .withdraws)
+withdrawn = withdraw-none (waiting wide) .0 (computed .withdraws)
 
 -- ---- demand 3: H7, where both sides are 23, and 18 for the velocity at point 1; H4 and H5 are opened alike and accept the same sample
 
@@ -91,7 +89,7 @@ in-ticks = our-calls .inTicks (origin wide) (start wide) begins (round (round []
 
 -- whatever the tolerances and the limit are
 alike : (position velocity limit : ℕ) → Alike wide (h3 1 position velocity limit)
-alike position velocity limit = record { points = refl; start = refl; samples = λ k. refl }
+alike position velocity limit = record { points = refl; point = refl; samples = λ k. refl }
 
 of-openings : OfOpenings ours
 of-openings = any-calls .openings ours (our-calls .demand3) (our-calls .counts)

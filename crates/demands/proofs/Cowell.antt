@@ -16,7 +16,8 @@ use Rattle.ticks.specs.declared.WholeSample.{WholeSample}
 use Rattle.session.specs.declared.Session.{Session}
 use Rattle.session.specs.Moves.{presentPoint}
 use Rattle.steps.specs.declared.Correction.the-variants as C
-use Rattle.demands.specs.Coordinates.{Coordinate, positionOf, velocityOf}
+use Rattle.demands.specs.Coordinates.{positionOf, velocityOf}
+use Rattle.session.specs.Coordinates.{Coordinate}
 use Rattle.demands.specs.Histories.{ours, Call, Event, predicting, correcting, withdrawing, refining, Entry, after, history, entries, samplesOf}
 use Rattle.demands.specs.ClosedForm.{Origin, Begins, samples, firstSum, secondBefore, positionAt, velocityAt, Corrects, Told}
 use Rattle.demands.specs.Demands.{positions, velocities, position, velocity, Unsummed, UnsummedInTicks}

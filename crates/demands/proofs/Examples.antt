@@ -6,7 +6,7 @@ use Prim.Native.Nat.{ℕ, _*_}
 use lib.IntN.{ℤ, pos, negℤ}
 use lib.ListN.{length}
 use lib.Ieee.{Float, binary64, add, div, ofInt}
-use Rattle.integers.specs.Tests.{firstOf}
+use Rattle.rules.specs.Rules.{firstOf}
 use Rattle.integers.specs.Differences.{byDifferences}
 use Rattle.exact.specs.Numerator.{D, exactOf, numerator, sameExact}
 use Rattle.coefficients.specs.Fraction.{times}
@@ -33,15 +33,16 @@ use Rattle.steps.specs.declared.Opening.the-variants as O
 use Rattle.steps.specs.declared.Prediction.the-variants as P
 use Rattle.steps.specs.declared.Correction.the-variants as C
 use Rattle.steps.specs.Answers.{reportedMotion, reportedPoint, reportedChange, noPoint, noChange, correctionAnswer}
-use Rattle.steps.specs.Opening.{wholePoint, axisSamples, openedWith}
+use Rattle.session.specs.Requests.{exactPoint, Request}
+use Rattle.steps.specs.Opening.{axisSamples, openedWith}
 use Rattle.steps.specs.Refusals.{openRefusal, full, predictRefusal, agrees, largestChange, isLast, correctRefusal, withdrawRefusal}
 use Rattle.steps.specs.Steps.{openOf, predictOf, correctOf, withdrawOf}
-use Rattle.demands.specs.Coordinates.{onX, positionIn}
-use Rattle.demands.specs.Histories.{Request, ours, Call, predict, correct, after, history, Entry, entries, samplesOf, agains}
+use Rattle.demands.specs.Coordinates.{positionIn}
+use Rattle.session.specs.Coordinates.{onX}
+use Rattle.demands.specs.Histories.{ours, Call, predict, correct, after, history, Entry, entries, samplesOf, agains}
 use Rattle.demands.specs.ClosedForm.{openingSamples, origin, firstSum, secondBefore, positionAt, nextPosition}
 use Rattle.demands.specs.Demands.{sample, secondDifference, firstDifference}
 use Rattle.demands.specs.BadVersions.{predictingZero, repeating, inventingCorrections, ignoringVelocities}
-use Rattle.demands.proofs.Opens.{refusal}
 
 -- ---- the sessions
 
@@ -55,7 +56,7 @@ h3 p position velocity limit =
       points = p;
       tolerances = record { position = position; velocity = velocity };
       limit = limit;
-      start = record { x = pos 1000; y = pos 0; z = pos 0; vx = pos 10; vy = pos 0; vz = pos 0 };
+      point = record { x = pos 1000; y = pos 0; z = pos 0; vx = pos 10; vy = pos 0; vz = pos 0 };
       floats = float (pos 12) ∷ float (pos 0) ∷ float (pos 0) ∷ [];
     }
 
@@ -136,11 +137,11 @@ stateNumber Starting = 3
 
 pub record Computed : Type 0 where
   -- openings
-  pub opens : refusal wide ≡ 0
+  pub opens : openRefusal wide ≡ 0
   pub opened : ours .opens wide .answer ≡ O.Opened
   pub narrowly : ours .opens narrow .answer ≡ O.Opened
   pub turningly : ours .opens turning .answer ≡ O.Opened
-  pub refused : refusal none ≡ 1
+  pub refused : openRefusal none ≡ 1
   pub samples : openingSamples wide onX ≡ pos 12 ∷ []
   pub opening : origin wide .position onX ≡ pos (1000 * D)
   pub stateFirst : stateNumber (start wide .state) ≡ 1
@@ -196,7 +197,7 @@ pub record Computed : Type 0 where
   pub noAgains : agains (start wide .corrections) (history inventingCorrections (start wide) (predict ∷ [])) ≡ 0
 
 pub computed : Computed
-unfolding add div ofInt firstOf byDifferences exactOf numerator sameExact times c g l s total terms next divided run positionPredictor positionCorrector velocityPredictor velocityCorrector unsummedCowell adamsMoulton roundedOf any motionOf still presentMotion predictedMotion correctedMotion keptSamples advancedAxis openedAxis emptyAxis sameMotion inRange changeOf sizes agreesOn remaindersHold samplesSmall emptyZero pointsHold settingsHold nowhere presentPoint estimateOf predictedPoint correctedPoint pointInRange pointsAgree pointChange settledAgain awaitingAt acceptedAt openedSession closedSession countsHold samePoint settledHolds estimateBegins awaitingHolds holds settled awaiting reportedMotion reportedPoint reportedChange noPoint noChange wholePoint axisSamples openedWith openRefusal full predictRefusal agrees largestChange isLast correctRefusal withdrawRefusal openOf predictOf correctOf withdrawOf firstSum secondBefore positionAt nextPosition
+unfolding add div ofInt firstOf byDifferences exactOf numerator sameExact times c g l s total terms next divided run positionPredictor positionCorrector velocityPredictor velocityCorrector unsummedCowell adamsMoulton roundedOf any motionOf still presentMotion predictedMotion correctedMotion keptSamples advancedAxis openedAxis emptyAxis sameMotion inRange changeOf sizes agreesOn remaindersHold samplesSmall emptyZero pointsHold settingsHold nowhere presentPoint estimateOf predictedPoint correctedPoint pointInRange pointsAgree pointChange settledAgain awaitingAt acceptedAt openedSession closedSession countsHold samePoint settledHolds estimateBegins awaitingHolds holds settled awaiting reportedMotion reportedPoint reportedChange noPoint noChange exactPoint axisSamples openedWith openRefusal full predictRefusal agrees largestChange isLast correctRefusal withdrawRefusal openOf predictOf correctOf withdrawOf firstSum secondBefore positionAt nextPosition
 computed =
     record {
       opens = refl;

@@ -10,7 +10,7 @@ use native.Mathlib.Numerals.{add-one}
 use lib.Dec.{eqb}
 use lib.Ieee.{Float}
 use lib.ListN.{length}
-use Rattle.integers.specs.Tests.{_and_, joined}
+use Rattle.integers.specs.Tests.{joined}
 use Rattle.ticks.specs.declared.Sample.{Sample}
 use Rattle.ticks.specs.declared.WholeSample.{WholeSample}
 use Rattle.ticks.specs.Samples.{wholeOf}
@@ -26,12 +26,12 @@ use Rattle.steps.specs.declared.Withdrawal.the-variants as W
 use Rattle.steps.specs.Answers.{reportedPoint}
 use Rattle.steps.specs.Refusals.{predictRefusal, agrees, correctRefusal, withdrawRefusal}
 use Rattle.steps.specs.Steps.{predictBy, predictOf, judged, correctBy, correctOf, withdrawBy, withdrawOf}
-use Rattle.steps.proofs.Refusals.{correct-0}
+use Rattle.steps.proofs.Refusals.{corrected-awaiting}
 use Rattle.steps.proofs.Left.{predict-leaves, correct-leaves, withdraw-leaves}
-use Rattle.starting.specs.Records.{starting}
-use Rattle.rounds.specs.Steps.{refused, refineOf}
-use Rattle.rounds.proofs.Left.{refine-leaves}
-use Rattle.demands.specs.Coordinates.{axisOf}
+use Rattle.epoch_session.specs.Records.{starting}
+use Rattle.epoch_steps.specs.Steps.{refused, refineOf}
+use Rattle.epoch_steps.proofs.Left.{refine-leaves}
+use Rattle.session.specs.Coordinates.{axisOf}
 use Rattle.demands.specs.Histories.{ours, Call, predict, correct, withdraw, refine, Event, predicting, correcting, withdrawing, refining, step, event, after, history, entries, samplesOf, agains}
 use Rattle.demands.specs.ClosedForm.{Origin, Begins, originAt, Stands, Tells, Told}
 use Rattle.demands.proofs.Rounds.{not-starting, unrefined, unstarting}
@@ -158,7 +158,7 @@ module _ (o : Origin) (small : o .points ≤ 9) (m n : ℕ) (s : Session) (es : 
       refused false r = unmoved (correcting a (C.Refused r)) refl refl tt
 
       go : (r : ℕ) → correctRefusal s a ≡ r → Invariant o m n (correctBy r s (wholeOf a) .session) (correcting a (correctBy r s (wholeOf a) .answer) ∷ es)
-      go zero e = judge (agrees s q) (expecting s (correct-0 s a .0 e .standing) .state)
+      go zero e = judge (agrees s q) (expecting s (corrected-awaiting s a e) .state)
       go (suc r) e = refused (eqb (suc r) 8) (suc r)
 
   after-withdraw : Invariant o m n (withdrawOf s .session) (withdrawing (withdrawOf s .answer) ∷ es)

@@ -1,7 +1,6 @@
 -- The demands, shown. `Theorems` collects what is shown.
-pub mod Parts
+pub mod Conditions
 pub mod Tables
-pub mod TablesOfRounds
 pub mod Standing
 pub mod Rounds
 pub mod Invariant

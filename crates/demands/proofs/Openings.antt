@@ -15,11 +15,11 @@ use Rattle.session.specs.Holding.{holds}
 use Rattle.session.proofs.Rules.{settings-hold, holding, counts-are}
 use Rattle.session.proofs.Rules as S
 use Rattle.session.proofs.Kept.{closed-fails}
-use Rattle.steps.specs.Answers.{NotZero}
-use Rattle.steps.specs.Opening.{wholePoint}
-use Rattle.starting.specs.Records.{starting}
-use Rattle.starting.proofs.Rules.{keeps-rules}
-use Rattle.demands.specs.Histories.{Request, Implementation, ours, Call, predict, correct, withdraw, refine, Event, step, event, after, history, Act, opening, firstRound, calling, lived, entries, agains}
+use Rattle.rules.specs.Rules.{NotZero}
+use Rattle.session.specs.Requests.{exactPoint, Request}
+use Rattle.epoch_session.specs.Records.{starting}
+use Rattle.epoch_session.proofs.Rules.{keeps-start}
+use Rattle.demands.specs.Histories.{Implementation, ours, Call, predict, correct, withdraw, refine, Event, step, event, after, history, Act, opening, beginning, calling, lived, entries, agains}
 use Rattle.demands.specs.Refusals.{Settings}
 use Rattle.demands.specs.ClosedForm.{Begins, originAt, origin, startOrigin}
 use Rattle.demands.specs.Demands.{openNumber, startNumber, Demand3, Counts}
@@ -35,13 +35,13 @@ anew I s r [] earlier = refl
 anew I s r (call ∷ calls) earlier = ap (λ t. step I t call) (anew I s r calls earlier)
 
 pub anew-start : (I : Implementation) (s : Session) (r : Request) (calls : List Call) (earlier : List Act) →
-    lived I s (map calling calls ++ firstRound r ∷ earlier) ≡ after I (I .starts r .session) calls
+    lived I s (map calling calls ++ beginning r ∷ earlier) ≡ after I (I .starts r .session) calls
 anew-start I s r [] earlier = refl
 anew-start I s r (call ∷ calls) earlier = ap (λ t. step I t call) (anew-start I s r calls earlier)
 
 -- requests alike have one origin
 same-origin : (q r : Request) → Alike q r → origin q ≡ origin r
-same-origin q r a = λ i. originAt (a .points i) (wholePoint (a .start i)) (λ k. a .samples k i)
+same-origin q r a = λ i. originAt (a .points i) (exactPoint (a .point i)) (λ k. a .samples k i)
 
 pub of-openings : (I : Implementation) → Demand3 I → Counts I → OfOpenings I
 of-openings I d c =
@@ -90,7 +90,7 @@ closed s h f (refine floats) = unstarting s f floats
 
 -- an open record and a starting one keep the numbers of the settings
 pub bad-settings : (s : Session) → ¬ Settings (s .tolerances) (s .limit) → (call : Call) → (step ours s call ≡ s) × (event ours s call ≡ refused7 call)
-bad-settings s n = closed s (fails (holds s) (λ t. n (kept (counts-are s (holding s t .rules .counts))))) (fails (starting s) (λ t. n (begun (settings-hold (s .tolerances) (s .limit) .0 (keeps-rules s t .settings)))))
+bad-settings s n = closed s (fails (holds s) (λ t. n (kept (counts-are s (holding s t .rules .counts))))) (fails (starting s) (λ t. n (begun (settings-hold (s .tolerances) (s .limit) .0 (keeps-start s t .settings)))))
   where
     begun : Tolerable (s .tolerances) × ((1 ≤ s .limit) × (s .limit ≤ 8)) → Settings (s .tolerances) (s .limit)
     begun (t, l) = ((t .position, t .velocity), l)

@@ -13,41 +13,40 @@ use Rattle.session.proofs.Rules.{settled-holds}
 use Rattle.session.proofs.Present.{present-opened}
 use Rattle.steps.specs.declared.Opening.the-variants as O
 use Rattle.steps.specs.Answers.{openingAnswer}
-use Rattle.steps.specs.Opening.{wholePoint, openedWith}
+use Rattle.session.specs.Requests.{exactPoint, Request}
+use Rattle.steps.specs.Opening.{openedWith}
 use Rattle.steps.specs.Refusals.{openRefusal}
 use Rattle.steps.specs.Steps.{openBy, openOf}
 use Rattle.steps.proofs.Answers.{open-answers}
-use Rattle.steps.proofs.Given.{start-placed, at-samples}
+use Rattle.steps.proofs.Given.{exact-point-placed, at-samples}
 use Rattle.steps.proofs.Left.{open-settles}
-use Rattle.steps.proofs.Refusals.{open-0}
-use Rattle.demands.specs.Coordinates.{Coordinate, onX, onY, onZ, axisOf, positionOf, velocityOf}
-use Rattle.demands.specs.Histories.{Request, ours}
+use Rattle.steps.proofs.Refusals.{opened-range}
+use Rattle.demands.specs.Coordinates.{positionOf, velocityOf}
+use Rattle.session.specs.Coordinates.{Coordinate, onX, onY, onZ, axisOf}
+use Rattle.demands.specs.Histories.{ours}
 use Rattle.demands.specs.ClosedForm.{Begins, place, openingSamples, origin}
 
 module _ (r : Request) where
-  abbrev pub refusal : ℕ
-  refusal = openRefusal (r .points) (r .tolerances) (r .limit) (r .start) (r .floats)
-
   abbrev session : Session
-  session = openedWith (r .points) (r .tolerances) (r .limit) (wholePoint (r .start)) (r .floats)
+  session = openedWith (r .points) (r .tolerances) (r .limit) (exactPoint (r .point)) (r .floats)
 
   -- the answer's number is the refusal's
-  pub number-is : openingAnswer (ours .opens r .answer) .number ≡ refusal
-  number-is = ap (λ a. a .number) (open-answers (r .points) (r .tolerances) (r .limit) (r .start) (r .floats))
+  pub number-is : openingAnswer (ours .opens r .answer) .number ≡ openRefusal r
+  number-is = ap (λ a. a .number) (open-answers r)
 
   module _ (e : ours .opens r .answer ≡ O.Opened) where
-    not-refused : refusal ≡ 0
+    not-refused : openRefusal r ≡ 0
     not-refused = sym number-is ∙ ap (λ a. openingAnswer a .number) e
 
     opened : ours .opens r .session ≡ session
     unfolding openOf
-    opened = ap (λ n. openBy n (r .points) (r .tolerances) (r .limit) (r .start) (r .floats) .session) not-refused
+    opened = ap (λ n. openBy n r .session) not-refused
 
-    present : presentPoint (ours .opens r .session) ≡ wholePoint (r .start)
+    present : presentPoint (ours .opens r .session) ≡ exactPoint (r .point)
     unfolding openedWith
     present =
         ap presentPoint opened
-        ∙ present-opened (r .points) (r .tolerances) (r .limit) (wholePoint (r .start)) _ _ _ (start-placed (r .start) (open-0 (r .points) (r .tolerances) (r .limit) (r .start) (r .floats) .0 not-refused .range))
+        ∙ present-opened (r .points) (r .tolerances) (r .limit) (exactPoint (r .point)) _ _ _ (exact-point-placed (r .point) (opened-range r not-refused))
 
     samples-are : (k : Coordinate) → axisOf k session .samples ≡ places (r .points) (openingSamples r k)
     unfolding openedWith openedSession openedAxis
@@ -59,7 +58,7 @@ module _ (r : Request) where
     unfolding openedWith openedSession
     open-begins =
         record {
-          held = settled-holds (ours .opens r .session) (open-settles (r .points) (r .tolerances) (r .limit) (r .start) (r .floats) not-refused);
+          held = settled-holds (ours .opens r .session) (open-settles r not-refused);
           points = ap (λ s. s .points) opened;
           position = λ k. ap (positionOf k) present;
           velocity = λ k. ap (velocityOf k) present;

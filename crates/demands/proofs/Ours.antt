@@ -8,28 +8,31 @@ use Rattle.ticks.specs.declared.Sample.{Sample}
 use Rattle.ticks.specs.Samples.{wholeOf}
 use Rattle.session.specs.declared.Session.{Session}
 use Rattle.session.specs.Moves.{correctedPoint}
-use Rattle.starting.specs.Rounds.{roundsAgree}
-use Rattle.starting.specs.Records.{heldRound}
-use Rattle.steps.specs.Answers.{NotZero}
-use Rattle.steps.specs.Opening.{wholePoint}
-use Rattle.steps.specs.Refusals.{predictRefusal, agrees, correctRefusal, withdrawRefusal}
+use Rattle.epoch_session.specs.Rounds.{roundsAgree}
+use Rattle.epoch_session.specs.Records.{heldRound}
+use Rattle.rules.specs.Rules.{NotZero, Rule, distinct, Exactly, First, Unrefused}
+use Rattle.session.specs.Requests.{exactPoint, Request}
+use Rattle.steps.specs.Refusals.{predictRefusal, agrees, correctRefusal, withdrawRefusal, openRefusal}
 use Rattle.steps.specs.Steps.{openBy, openOf, predictBy, predictOf, judged, correctBy, correctOf, withdrawBy, withdrawOf}
 use Rattle.steps.proofs.Answers.{predict-answers, correct-answers, withdraw-answers}
 use Rattle.steps.proofs.Left.{open-closes, open-leaves, predict-untouched, correct-untouched, correct-ends, withdraw-untouched}
-use Rattle.rounds.specs.Answers.{noPoints}
-use Rattle.rounds.specs.Refusals.{givenRound, laterRound, refineRefusal}
-use Rattle.rounds.specs.Steps.{startBy, startOf, judgedRound, refineBy, refineOf}
-use Rattle.rounds.proofs.Left.{start-closes, refine-untouched, refine-closes}
-use Rattle.demands.specs.Histories.{Request, ours}
-use Rattle.demands.specs.Refusals.{Exactly, First, Unrefused, openTable, predictTable, correctTable, withdrawTable, startTable, refineTable}
+use Rattle.epoch_steps.specs.Answers.{noPoints}
+use Rattle.epoch_steps.specs.Refusals.{laterRound, refineRefusal, startRefusal, firstRound}
+use Rattle.epoch_steps.specs.Steps.{startBy, startOf, judgedRound, refineBy, refineOf}
+use Rattle.epoch_steps.proofs.Left.{start-closes, refine-untouched, refine-closes}
+use Rattle.demands.specs.Histories.{ours}
+use Rattle.demands.specs.Refusals.{openTable, predictTable, correctTable, withdrawTable, startTable, refineTable}
 use Rattle.demands.specs.Demands.{predictNumber, correctNumber, withdrawNumber, Demand1, Demand2, Formulas, Demand3, Counts, Leaves}
-use Rattle.demands.proofs.Tables.{agreement, open-table, predict-table, correct-table, withdraw-table}
-use Rattle.demands.proofs.TablesOfRounds.{start-refusal, start-table, start-none, round-agreement, refine-table}
-use Rattle.demands.proofs.Opens.{refusal, number-is, open-begins, open-counts}
+use Rattle.demands.proofs.Opens.{number-is, open-begins, open-counts}
 use Rattle.demands.proofs.Rounds.{start-number, refine-number, round-begins, round-counts, first-leaves, rounds-counted}
 use Rattle.demands.proofs.Invariant.{leaves, holds-after, invariant, open-begins-itself, originOf}
 use Rattle.demands.proofs.Cowell.{unsummed, last}
 use Rattle.demands.proofs.Alike.{same-point}
+use Rattle.demands.proofs.Conditions.{agreement, rounds-apart}
+use Rattle.demands.proofs.Tables.{open-first, predict-first, correct-first, withdraw-first, start-first, refine-first}
+use Rattle.rules.specs.Readings.{first-exactly, first-none}
+use Rattle.epoch_steps.proofs.Refusals.{start-refuses}
+use mathlib.Core.Logic.{_↔_}
 
 -- ---- the numbers that are answered
 
@@ -44,80 +47,83 @@ withdraw-number s = ap (λ a. a .number) (withdraw-answers s)
 
 -- ---- a refused round has no points
 
-blank-start : (r : Request) → NotZero (start-refusal r) → ours .starts r .answer .points ≡ noPoints
+blank-start : (r : Request) → NotZero (startRefusal r) → ours .starts r .answer .track ≡ noPoints
 unfolding startOf
-blank-start r = go (start-refusal r)
-  where
-    go : (n : ℕ) → NotZero n → startBy n (r .tolerances) (r .limit) (wholePoint (r .start)) (givenRound (r .points) (wholePoint (r .start)) (r .floats)) .answer .points ≡ noPoints
-    go zero f = absurd (f refl)
-    go (suc n) f = refl
+blank-start r f = ap (λ a. a .answer .track) (start-refuses (r .tolerances) (r .limit) (exactPoint (r .point)) (firstRound r) (startRefusal r) f)
 
-blank-round : (s : Session) (floats : List Float) → NotZero (refineRefusal s floats) → ours .refines s floats .answer .points ≡ noPoints
+blank-round : (s : Session) (floats : List Float) → NotZero (refineRefusal s floats) → ours .refines s floats .answer .track ≡ noPoints
 unfolding refineOf
 blank-round s floats = go (refineRefusal s floats)
   where
-    go : (n : ℕ) → NotZero n → refineBy n s (laterRound s floats) .answer .points ≡ noPoints
+    go : (n : ℕ) → NotZero n → refineBy n s (laterRound s floats) .answer .track ≡ noPoints
     go zero f = absurd (f refl)
     go (suc n) f = refl
+
+-- a number that is a call's, and a table with different numbers of which it is the first rule's
+exactly : (rs : List Rule) {m n : ℕ} → m ≡ n → distinct rs ≡ true → First rs n → Exactly rs m
+exactly rs {m} {n} e d h = subst (Exactly rs) (sym e) (first-exactly rs n d h)
 
 pub demand1 : Demand1 ours
 demand1 =
     record {
-      opens = λ r. subst (Exactly (openTable r)) (sym (number-is r)) (open-table r);
-      predicts = λ s. subst (Exactly (predictTable s)) (sym (predict-number s)) (predict-table s);
-      corrects = λ s a. subst (Exactly (correctTable s a)) (sym (correct-number s a)) (correct-table s a);
-      withdraws = λ s. subst (Exactly (withdrawTable s)) (sym (withdraw-number s)) (withdraw-table s);
-      closed = λ r f. open-closes (r .points) (r .tolerances) (r .limit) (r .start) (r .floats) (λ e. f (number-is r ∙ e));
+      opens = λ r. exactly (openTable r) (number-is r) refl (open-first r);
+      predicts = λ s. exactly (predictTable s) (predict-number s) refl (predict-first s);
+      corrects = λ s a. exactly (correctTable s a) (correct-number s a) refl (correct-first s a);
+      withdraws = λ s. exactly (withdrawTable s) (withdraw-number s) refl (withdraw-first s);
+      closed = λ r f. open-closes r (λ e. f (number-is r ∙ e));
       unpredicted = λ s f. predict-untouched s (λ e. f (predict-number s ∙ e));
       settled = λ s a e. correct-ends s a (sym (correct-number s a) ∙ e);
       uncorrected = λ s a f g. correct-untouched s a (λ e. f (correct-number s a ∙ e)) (λ e. g (correct-number s a ∙ e));
       unwithdrawn = λ s f. withdraw-untouched s (λ e. f (withdraw-number s ∙ e));
-      starts = λ r. subst (First (startTable r)) (sym (start-number r)) (start-table r);
-      refines = λ s floats. subst (Exactly (refineTable s floats)) (sym (refine-number s floats)) (refine-table s floats);
-      unstarted = λ r f. start-closes (r .points) (r .tolerances) (r .limit) (r .start) (r .floats) (λ e. f (start-number r ∙ e));
+      starts = λ r. subst (First (startTable r)) (sym (start-number r)) (start-first r);
+      refines = λ s floats. exactly (refineTable s floats) (refine-number s floats) refl (refine-first s floats);
+      unstarted = λ r f. start-closes r (λ e. f (start-number r ∙ e));
       ended = λ s floats e. refine-closes s floats (sym (refine-number s floats) ∙ e);
       unrefined = λ s floats f g. refine-untouched s floats (λ e. f (refine-number s floats ∙ e)) (λ e. g (refine-number s floats ∙ e));
       blankStart = λ r f. blank-start r (λ e. f (start-number r ∙ e));
       blankRound = λ s floats f. blank-round s floats (λ e. f (refine-number s floats ∙ e));
     }
 
--- ---- where no rule applies, no number is given
+-- ---- where no rule applies, no number is given, and the other way round
 
-unrefused-open : (r : Request) → Unrefused (openTable r) → refusal r ≡ 0
-unrefused-open r u = let (_, (_, (_, (_, (_, (_, none)))))) = open-table r in none .1 u
+pub open-none : (r : Request) → (openRefusal r ≡ 0) ↔ Unrefused (openTable r)
+open-none r = first-none (openTable r) (openRefusal r) refl (open-first r)
 
-unrefused-predict : (s : Session) → Unrefused (predictTable s) → predictRefusal s ≡ 0
-unrefused-predict s u = let (_, (_, (_, none))) = predict-table s in none .1 u
+pub predict-none : (s : Session) → (predictRefusal s ≡ 0) ↔ Unrefused (predictTable s)
+predict-none s = first-none (predictTable s) (predictRefusal s) refl (predict-first s)
 
-unrefused-correct : (s : Session) (a : Sample) → Unrefused (correctTable s a) → correctRefusal s a ≡ 0
-unrefused-correct s a u = let (_, (_, (_, (_, (_, none))))) = correct-table s a in none .1 u
+pub correct-none : (s : Session) (a : Sample) → (correctRefusal s a ≡ 0) ↔ Unrefused (correctTable s a)
+correct-none s a = first-none (correctTable s a) (correctRefusal s a) refl (correct-first s a)
 
-unrefused-withdraw : (s : Session) → Unrefused (withdrawTable s) → withdrawRefusal s ≡ 0
-unrefused-withdraw s u = let (_, none) = withdraw-table s in none .1 u
+pub withdraw-none : (s : Session) → (withdrawRefusal s ≡ 0) ↔ Unrefused (withdrawTable s)
+withdraw-none s = first-none (withdrawTable s) (withdrawRefusal s) refl (withdraw-first s)
 
-unrefused-refine : (s : Session) (floats : List Float) → Unrefused (refineTable s floats) → refineRefusal s floats ≡ 0
-unrefused-refine s floats u = let (_, (_, (_, (_, (_, (_, none)))))) = refine-table s floats in none .1 u
+pub start-none : (r : Request) → (startRefusal r ≡ 0) ↔ Unrefused (startTable r)
+start-none r = first-none (startTable r) (startRefusal r) refl (start-first r)
+
+pub refine-none : (s : Session) (floats : List Float) → (refineRefusal s floats ≡ 0) ↔ Unrefused (refineTable s floats)
+refine-none s floats = first-none (refineTable s floats) (refineRefusal s floats) refl (refine-first s floats)
 
 judge : (s : Session) (a : Sample) (b : Bool) → Unrefused (correctTable s a) → agrees s (correctedPoint s (wholeOf a)) ≡ b → correctOf s a ≡ judged b s (wholeOf a) (correctedPoint s (wholeOf a))
 unfolding correctOf
-judge s a b u f = ap (λ n. correctBy n s (wholeOf a)) (unrefused-correct s a u) ∙ ap (λ t. judged t s (wholeOf a) (correctedPoint s (wholeOf a))) f
+judge s a b u f = ap (λ n. correctBy n s (wholeOf a)) (correct-none s a .1 u) ∙ ap (λ t. judged t s (wholeOf a) (correctedPoint s (wholeOf a))) f
 
 judge-round : (s : Session) (floats : List Float) (b : Bool) → Unrefused (refineTable s floats) → roundsAgree (s .tolerances) (laterRound s floats) (heldRound s) ≡ b → refineOf s floats ≡ judgedRound b s (laterRound s floats)
 unfolding refineOf
-judge-round s floats b u f = ap (λ n. refineBy n s (laterRound s floats)) (unrefused-refine s floats u) ∙ ap (λ t. judgedRound t s (laterRound s floats)) f
+judge-round s floats b u f = ap (λ n. refineBy n s (laterRound s floats)) (refine-none s floats .1 u) ∙ ap (λ t. judgedRound t s (laterRound s floats)) f
 
 pub demand2 : Demand2 ours
 unfolding openOf predictOf withdrawOf startOf
 demand2 =
     record {
-      opens = λ r u. ap (λ n. openBy n (r .points) (r .tolerances) (r .limit) (r .start) (r .floats)) (unrefused-open r u);
-      predicts = λ s u. ap (λ n. predictBy n s) (unrefused-predict s u);
+      opens = λ r u. ap (λ n. openBy n r) (open-none r .1 u);
+      predicts = λ s u. ap (λ n. predictBy n s) (predict-none s .1 u);
       accepts = λ s a u w. judge s a true u (agreement s (correctedPoint s (wholeOf a)) .yes .1 w);
       repeats = λ s a u w. judge s a false u (agreement s (correctedPoint s (wholeOf a)) .no .1 w);
-      withdraws = λ s u. ap (λ n. withdrawBy n s) (unrefused-withdraw s u);
-      starts = λ r u. ap (λ n. startBy n (r .tolerances) (r .limit) (wholePoint (r .start)) (givenRound (r .points) (wholePoint (r .start)) (r .floats))) (start-none r .1 u);
-      opensRound = λ s floats u w. judge-round s floats true u (round-agreement s floats .yes .1 w);
-      asksMore = λ s floats u w. judge-round s floats false u (round-agreement s floats .no .1 w);
+      withdraws = λ s u. ap (λ n. withdrawBy n s) (withdraw-none s .1 u);
+      starts = λ r u. ap (λ n. startBy n (r .tolerances) (r .limit) (exactPoint (r .point)) (firstRound r)) (start-none r .1 u);
+      opensRound = λ s floats u w. judge-round s floats true u (rounds-apart s (laterRound s floats) .yes .1 w);
+      asksMore = λ s floats u w. judge-round s floats false u (rounds-apart s (laterRound s floats) .no .1 w);
     }
 
 -- ---- histories
@@ -142,7 +148,7 @@ counts =
 pub leave : Leaves ours
 leave =
     record {
-      opens = λ r. open-leaves (r .points) (r .tolerances) (r .limit) (r .start) (r .floats);
+      opens = open-leaves;
       starts = first-leaves;
       steps = leaves;
       held = holds-after;

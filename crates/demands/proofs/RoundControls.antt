@@ -1,32 +1,30 @@
 -- Each theorem about rounds applies to something: in a start with p 3 its hypotheses are met, by computing.
-use mathlib.Core.Path.{_≡_, refl, sym, ap, _∙_, subst}
+use mathlib.Core.Path.{_≡_, refl, sym, ap, _∙_}
 use mathlib.Core.Bool.{true}
 use mathlib.Core.List.{[], _∷_}
-use Prim.Native.Nat.{ℕ, _*_, _≤_}
+use Prim.Native.Nat.{ℕ}
 use native.Mathlib.Omega.{arith}
-use lib.IntN.{ℤ, pos, natAbs, _-ℤ_}
-use Rattle.integers.specs.Tactics.{parts, differences, integers}
-use Rattle.exact.specs.Numerator.{D}
+use lib.IntN.{pos}
 use Rattle.session.specs.declared.Session.{Session}
 use Rattle.session.specs.Moves.{closedSession}
 use Rattle.session.specs.Holding.{holds}
-use Rattle.steps.specs.Answers.{NotZero}
+use Rattle.rules.specs.Rules.{NotZero, Unrefused}
 use Rattle.steps.specs.Opening.{axisSamples}
-use Rattle.starting.specs.Rounds.{earlierPoint}
-use Rattle.starting.specs.Records.{heldRound, starting}
-use Rattle.rounds.specs.Answers.{noPoints}
-use Rattle.rounds.specs.Refusals.{laterRound}
-use Rattle.rounds.specs.Steps.{refineOf}
-use Rattle.rounds.proofs.Left.{start-begins}
-use Rattle.demands.specs.Coordinates.{positionOf, velocityOf}
+use Rattle.epoch_session.specs.Rounds.{earlierPoint}
+use Rattle.epoch_session.specs.Records.{starting}
+use Rattle.epoch_steps.specs.Answers.{noPoints}
+use Rattle.epoch_steps.specs.Refusals.{laterRound}
+use Rattle.epoch_steps.specs.Steps.{refineOf}
+use Rattle.epoch_steps.proofs.Left.{start-begins}
 use Rattle.demands.specs.Histories.{ours, predict, refine, step, event, after, history, entries}
-use Rattle.demands.specs.Refusals.{Unrefused, RoundWithin, refineTable}
+use Rattle.demands.specs.Refusals.{RoundWithin, refineTable}
 use Rattle.demands.specs.ClosedForm.{originAt, place, openingSamples, origin, startOrigin}
 use Rattle.demands.specs.Demands.{Unsummed, SamePoint}
 use Rattle.demands.specs.Theorems.{OfStarts, refused7}
 use Rattle.demands.proofs.Theorems.{our-calls, any-calls}
 use Rattle.demands.proofs.Rounds.{start-number, refine-number}
 use Rattle.demands.proofs.RoundsTurnedDown.{unrefused-same, unrefused-other, not-within}
+use Rattle.demands.proofs.Conditions.{rounds-apart}
 use Rattle.demands.proofs.RoundExamples.{force, first, even, newest, begun, moved, again, computed}
 
 -- a number that was computed is the answer's
@@ -41,7 +39,7 @@ opened = refineOf begun (force (pos 12)) .session
 closed : ours .starts even .session ≡ closedSession
 closed = our-calls .demand1 .unstarted even (given (start-number even ∙ computed .tenth) (λ e. omega arith))
 
-no-points : ours .starts even .answer .points ≡ noPoints
+no-points : ours .starts even .answer .track ≡ noPoints
 no-points = our-calls .demand1 .blankStart even (given (start-number even ∙ computed .tenth) (λ e. omega arith))
 
 ended : refineOf again (force (pos 12)) .session ≡ closedSession
@@ -52,21 +50,13 @@ unrefined =
     let n = refine-number begun [] ∙ computed .second in
     our-calls .demand1 .unrefined begun [] (given n (λ e. omega arith)) (λ e. omega (arith, sym n ∙ e))
 
-no-later-points : refineOf begun [] .answer .points ≡ noPoints
+no-later-points : refineOf begun [] .answer .track ≡ noPoints
 no-later-points = our-calls .demand1 .blankRound begun [] (given (refine-number begun [] ∙ computed .second) (λ e. omega arith))
 
 -- ---- demand 2: the first round (`unrefused-first`), one that opens, and one that asks for more
 
-nothing : (a : ℤ) (n : ℕ) → natAbs (a -ℤ a) ≤ n
-nothing a n = rw (parts a) (simp differences (omega integers))
-
 opens : Unrefused (refineTable begun (force (pos 12))) × RoundWithin begun (laterRound begun (force (pos 12)))
-opens = (
-  unrefused-same,
-  subst (RoundWithin begun) (sym (computed .sameRound)) (λ j l k.
-      let q = earlierPoint (heldRound begun) j in
-      (nothing (positionOf k q) (begun .tolerances .position * D), nothing (velocityOf k q) (begun .tolerances .velocity * D))),
-)
+opens = (unrefused-same, rounds-apart begun (laterRound begun (force (pos 12))) .yes .0 (computed .agreed))
 
 asks-more : Unrefused (refineTable begun (force (pos 24))) × (¬ RoundWithin begun (laterRound begun (force (pos 24))))
 asks-more = (unrefused-other, not-within)
@@ -100,7 +90,7 @@ one-round = our-calls .counts .rounds first (start-number first ∙ computed .un
 -- ---- a starting record, an open one, and a first round that was refused
 
 begins : starting begun ≡ true
-begins = start-begins (first .points) (first .tolerances) (first .limit) (first .start) (first .floats) (computed .unrefused)
+begins = start-begins first (computed .unrefused)
 
 waits : (step ours begun predict ≡ begun) × (event ours begun predict ≡ refused7 predict)
 waits = our-calls .waits begun begins predict tt

@@ -5,7 +5,7 @@ use mathlib.Core.List.{List, [], _∷_}
 use Prim.Native.Nat.{ℕ, _*_}
 use lib.IntN.{ℤ, pos, natAbs, _-ℤ_}
 use lib.Ieee.{Float, binary64, add, div, ofInt}
-use Rattle.integers.specs.Tests.{firstOf}
+use Rattle.rules.specs.Rules.{firstOf}
 use Rattle.integers.specs.Differences.{byDifferences}
 use Rattle.exact.specs.Numerator.{D, exactOf, numerator, sameExact}
 use Rattle.coefficients.specs.Fraction.{times}
@@ -14,13 +14,13 @@ use Rattle.coefficients.specs.Scaled.{run}
 use Rattle.coefficients.specs.Formulas.{positionCorrector, velocityCorrector, positionPredictor, velocityPredictor}
 use Rattle.ticks.specs.Round.{roundedOf}
 use Rattle.ticks.specs.Samples.{any}
-use Rattle.earlier.specs.Formulas.{lessBefore, cut, earlierPosition, earlierVelocity, hasCentre}
+use Rattle.epoch_coefficients.specs.Formulas.{lessBefore, cut, earlierPosition, earlierVelocity, hasCentre}
 use Rattle.axis.specs.Formulas.{motionOf, still, presentMotion, predictedMotion}
 use Rattle.axis.specs.declared.Tolerances.{Tolerances}
 use Rattle.axis.specs.Estimates.{sameMotion, inRange}
 use Rattle.axis.specs.Agreement.{changeOf, sizes, agreesOn}
 use Rattle.axis.specs.Holding.{remaindersHold, samplesSmall, emptyZero, placesHold}
-use Rattle.epochs.specs.Formulas.{nextSums, backSums, runOn, runBack, newestSums, earlierMotion, centreSums, startedAxis}
+use Rattle.epoch_axis.specs.Formulas.{nextSums, backSums, runOn, runBack, newestSums, earlierMotion, centreSums, startedAxis}
 use Rattle.session.specs.declared.Session.{Session}
 use Rattle.session.specs.declared.State.the-variants.{Awaiting}
 use Rattle.session.specs.Numbers.{pointsHold, settingsHold}
@@ -29,21 +29,22 @@ use Rattle.session.specs.Apart.{pointsAgree, pointChange}
 use Rattle.session.specs.Holding.{countsHold, samePoint, settledHolds, holds, settled}
 use Rattle.steps.specs.declared.Opening.the-variants as O
 use Rattle.steps.specs.Answers.{reportedMotion, reportedPoint, reportedChange, noPoint, noChange}
-use Rattle.steps.specs.Opening.{wholePoint, axisSamples}
+use Rattle.session.specs.Requests.{exactPoint, Request}
+use Rattle.steps.specs.Opening.{axisSamples}
 use Rattle.steps.specs.Refusals.{openRefusal, full, predictRefusal, isLast}
 use Rattle.steps.specs.Steps.{openOf, predictOf}
-use Rattle.starting.specs.Rounds.{roundOf, earlierPoint, everyBelow, largestBelow, roundInRange, roundsAgree, largestMove}
-use Rattle.starting.specs.Records.{heldRound, sumsZero, epochHolds, axisStarts, axesStart, startHolds, starting, startingAxis, startingSession, openedRound}
-use Rattle.rounds.specs.declared.Outcome.{Outcome}
-use Rattle.rounds.specs.declared.Outcome.the-variants as R
-use Rattle.rounds.specs.Answers.{pointsFrom, roundPoints, noPoints}
-use Rattle.rounds.specs.Refusals.{givenRound, startRefusal, laterRound, refineRefusal}
-use Rattle.rounds.specs.Steps.{startOf, refineOf}
-use Rattle.demands.specs.Coordinates.{onX, positionOf}
-use Rattle.demands.specs.Histories.{Request, ours, Call, predict, refine, after, history, agains, mores}
+use Rattle.epoch_session.specs.Rounds.{roundOf, earlierPoint, everyBelow, largestBelow, roundInRange, roundsAgree, largestMove}
+use Rattle.epoch_session.specs.Records.{heldRound, sumsZero, epochHolds, axisStarts, axesStart, startHolds, starting, startingAxis, startingSession, openedRound}
+use Rattle.epoch_steps.specs.declared.Outcome.{Outcome}
+use Rattle.epoch_steps.specs.declared.Outcome.the-variants as R
+use Rattle.epoch_steps.specs.Answers.{pointsFrom, roundPoints, noPoints}
+use Rattle.epoch_steps.specs.Refusals.{givenRound, startRefusal, laterRound, refineRefusal}
+use Rattle.epoch_steps.specs.Steps.{startOf, refineOf}
+use Rattle.demands.specs.Coordinates.{positionOf}
+use Rattle.session.specs.Coordinates.{onX}
+use Rattle.demands.specs.Histories.{ours, Call, predict, refine, after, history, agains, mores}
 use Rattle.demands.specs.BadVersions.{openingAtOnce, openingAnyhow, neverCounting, ignoringVelocitiesOfRounds}
 use Rattle.demands.proofs.Examples.{stateNumber}
-use Rattle.demands.proofs.TablesOfRounds.{start-refusal}
 
 -- ---- the session
 
@@ -55,24 +56,24 @@ abbrev pub force : ℤ → List Float
 force n = float n ∷ float (pos 0) ∷ float (pos 0) ∷ float n ∷ float (pos 0) ∷ float (pos 0) ∷ float n ∷ float (pos 0) ∷ float (pos 0) ∷ []
 
 -- a request with p and two tolerances, from a position and a velocity on x
-abbrev request : ℕ → Tolerances → ℤ → ℤ → Request
-request p tolerances x v =
-    record { points = p; tolerances = tolerances; limit = 2; start = record { x = x; y = pos 0; z = pos 0; vx = v; vy = pos 0; vz = pos 0 }; floats = force (pos 12) }
+abbrev requested : ℕ → Tolerances → ℤ → ℤ → Request
+requested p tolerances x v =
+    record { points = p; tolerances = tolerances; limit = 2; point = record { x = x; y = pos 0; z = pos 0; vx = v; vy = pos 0; vz = pos 0 }; floats = force (pos 12) }
 
 -- no position may move, and a velocity as far as any
 abbrev pub strict : Tolerances
 strict = record { position = 0; velocity = 1048576 }
 
 abbrev pub first : Request
-first = request 3 strict (pos 1000) (pos 10)
+first = requested 3 strict (pos 1000) (pos 10)
 
 -- an even p
 abbrev pub even : Request
-even = request 2 strict (pos 1000) (pos 10)
+even = requested 2 strict (pos 1000) (pos 10)
 
 -- what `open` is given at the point one step after the epoch, 1000 + 10 + 6 with velocity 10 + 12
 abbrev pub newest : Request
-newest = request 3 strict (pos 1016) (pos 22)
+newest = requested 3 strict (pos 1016) (pos 22)
 
 -- after the first round, and after a later one that moved
 abbrev pub begun : Session
@@ -86,7 +87,7 @@ again = after ours begun moved
 
 -- the other way round: the velocities of the outer points move by 12 ticks and may by 11
 abbrev pub turning : Session
-turning = ours .starts (request 3 (record { position = 1048576; velocity = 11 }) (pos 1000) (pos 10)) .session
+turning = ours .starts (requested 3 (record { position = 1048576; velocity = 11 }) (pos 1000) (pos 10)) .session
 
 -- ---- what the definitions compute there
 
@@ -96,8 +97,8 @@ kind R.Opened = 3
 kind (R.Refused n) = 0
 
 pub record Computed : Type 0 where
-  pub unrefused : start-refusal first ≡ 0
-  pub tenth : start-refusal even ≡ 10
+  pub unrefused : startRefusal first ≡ 0
+  pub tenth : startRefusal even ≡ 10
   -- the same samples open it, others ask for more, and then for the last time
   pub opens : refineOf begun (force (pos 12)) .answer .outcome ≡ R.Opened
   pub unrefusedSame : refineRefusal begun (force (pos 12)) ≡ 0
@@ -107,10 +108,10 @@ pub record Computed : Type 0 where
   pub againStarting : starting again ≡ true
   pub eighth : refineRefusal again (force (pos 12)) ≡ 8
   pub second : refineRefusal begun [] ≡ 2
-  -- the point where it opens is whole
-  pub sameRound : laterRound begun (force (pos 12)) ≡ heldRound begun
+  -- nothing moved there, and the point where it opens is whole
+  pub agreed : roundsAgree (begun .tolerances) (laterRound begun (force (pos 12))) (heldRound begun) ≡ true
   pub opened : ours .opens newest .answer ≡ O.Opened
-  pub point0 : earlierPoint (laterRound begun (force (pos 12))) 0 ≡ wholePoint (newest .start)
+  pub point0 : earlierPoint (laterRound begun (force (pos 12))) 0 ≡ exactPoint (newest .point)
   pub points : begun .points ≡ 3
   pub tolerances : begun .tolerances ≡ strict
   -- and predicts there
@@ -131,7 +132,7 @@ pub record Computed : Type 0 where
   pub countedOnce : mores 0 (history neverCounting begun moved) ≡ 1
 
 pub computed : Computed
-unfolding add div ofInt firstOf byDifferences exactOf numerator sameExact times c g l s total terms next divided run positionCorrector velocityCorrector roundedOf any motionOf still inRange changeOf sizes agreesOn samplesSmall emptyZero placesHold pointsHold settingsHold nowhere estimateOf pointInRange pointsAgree pointChange closedSession reportedMotion reportedPoint reportedChange noPoint noChange wholePoint axisSamples openRefusal openOf isLast full predictRefusal predictOf predictedPoint presentPoint predictedMotion presentMotion positionPredictor velocityPredictor awaitingAt sameMotion samePoint remaindersHold countsHold settledHolds holds settled lessBefore cut earlierPosition earlierVelocity hasCentre nextSums backSums runOn runBack newestSums earlierMotion centreSums startedAxis heldRound sumsZero epochHolds axisStarts axesStart startHolds starting startingAxis startingSession openedRound roundOf earlierPoint everyBelow largestBelow roundInRange roundsAgree largestMove pointsFrom roundPoints noPoints givenRound startRefusal laterRound refineRefusal startOf refineOf
+unfolding add div ofInt firstOf byDifferences exactOf numerator sameExact times c g l s total terms next divided run positionCorrector velocityCorrector roundedOf any motionOf still inRange changeOf sizes agreesOn samplesSmall emptyZero placesHold pointsHold settingsHold nowhere estimateOf pointInRange pointsAgree pointChange closedSession reportedMotion reportedPoint reportedChange noPoint noChange exactPoint axisSamples openRefusal openOf isLast full predictRefusal predictOf predictedPoint presentPoint predictedMotion presentMotion positionPredictor velocityPredictor awaitingAt sameMotion samePoint remaindersHold countsHold settledHolds holds settled lessBefore cut earlierPosition earlierVelocity hasCentre nextSums backSums runOn runBack newestSums earlierMotion centreSums startedAxis heldRound sumsZero epochHolds axisStarts axesStart startHolds starting startingAxis startingSession openedRound roundOf earlierPoint everyBelow largestBelow roundInRange roundsAgree largestMove pointsFrom roundPoints noPoints givenRound startRefusal laterRound refineRefusal startOf refineOf
 computed =
     record {
       unrefused = refl;
@@ -144,7 +145,7 @@ computed =
       againStarting = refl;
       eighth = refl;
       second = refl;
-      sameRound = refl;
+      agreed = refl;
       opened = refl;
       point0 = refl;
       points = refl;

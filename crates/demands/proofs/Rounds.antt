@@ -10,38 +10,37 @@ use lib.Ieee.{Float}
 use Rattle.integers.specs.Tests.{clash, fails}
 use Rattle.integers.specs.Differences.{at, at-taken}
 use Rattle.axis.specs.Formulas.{places}
-use Rattle.ticks.specs.Samples.{wholeOf}
 use Rattle.session.specs.declared.Session.{Session}
 use Rattle.session.specs.Moves.{estimateOf, closedSession}
 use Rattle.session.specs.Holding.{stateHolds, holds, settled, awaiting}
 use Rattle.session.proofs.Rules.{holding, settled-holds, awaiting-holds}
-use Rattle.steps.specs.Answers.{NotZero}
-use Rattle.steps.specs.Opening.{wholePoint, axisSamples}
-use Rattle.steps.specs.Steps.{predictBy, predictOf, correctBy, correctOf, withdrawBy, withdrawOf}
-use Rattle.steps.proofs.Refusals.{predict-7, correct-7, withdraw-7}
+use Rattle.rules.specs.Rules.{NotZero}
+use Rattle.session.specs.Requests.{Request}
+use Rattle.steps.specs.Opening.{axisSamples}
+use Rattle.steps.proofs.Results.{predict-gives, correct-gives, withdraw-gives}
+use Rattle.rules.specs.Tests.{hit-not}
 use Rattle.steps.proofs.Left.{predict-leaves, correct-leaves, withdraw-leaves}
-use Rattle.starting.specs.Rounds.{roundsAgree}
-use Rattle.starting.specs.Records.{heldRound, starting, startingSession}
-use Rattle.starting.proofs.Rules.{keeps-rules}
-use Rattle.rounds.specs.declared.Outcome.the-variants as R
-use Rattle.rounds.specs.Refusals.{givenRound, laterRound, refineRefusal}
-use Rattle.rounds.specs.Steps.{refused, startBy, startOf, judgedRound, refineBy, refineOf}
-use Rattle.rounds.proofs.Refusals.{refine-7}
-use Rattle.rounds.proofs.Answered.{start-answers, refine-answers}
-use Rattle.rounds.proofs.Given.{given-samples}
-use Rattle.rounds.proofs.Left.{start-closes, start-begins, start-leaves, refine-opened, refine-settles, refine-asked, refine-starts, refine-counts}
-use Rattle.rounds.proofs.Opened.{opened-at, opened-settled}
-use Rattle.demands.specs.Coordinates.{Coordinate, onX, onY, onZ, axisOf, positionOf, velocityOf}
-use Rattle.demands.specs.Histories.{Request, ours, Call, predict, correct, withdraw, refine, Event, predicting, correcting, withdrawing, refining, step, event, after, history, countedRound, mores}
+use Rattle.epoch_session.specs.Rounds.{roundsAgree}
+use Rattle.epoch_session.specs.Records.{heldRound, starting}
+use Rattle.epoch_session.proofs.Rules.{keeps-start}
+use Rattle.epoch_steps.specs.declared.Outcome.the-variants as R
+use Rattle.epoch_steps.specs.Refusals.{laterRound, refineRefusal, startRefusal}
+use Rattle.epoch_steps.specs.Steps.{refused, judgedRound, refineBy, refineOf}
+use Rattle.epoch_steps.proofs.Refusals.{refine-gives}
+use Rattle.epoch_steps.proofs.Answered.{start-answers, refine-answers}
+use Rattle.epoch_steps.proofs.Given.{given-samples}
+use Rattle.epoch_steps.proofs.Left.{start-closes, start-begins, start-leaves, refine-opened, refine-settles, refine-asked, refine-starts, refine-counts, start-counts, opened-at, opened-settled}
+use Rattle.demands.specs.Coordinates.{positionOf, velocityOf}
+use Rattle.session.specs.Coordinates.{Coordinate, onX, onY, onZ, axisOf}
+use Rattle.demands.specs.Histories.{ours, Call, predict, correct, withdraw, refine, Event, predicting, correcting, withdrawing, refining, step, event, after, history, countedRound, mores}
 use Rattle.demands.specs.ClosedForm.{Begins, place, startOrigin}
 use Rattle.demands.specs.Demands.{startNumber, refineNumber}
 use Rattle.demands.specs.Theorems.{refused7, Plain}
-use Rattle.demands.proofs.TablesOfRounds.{start-refusal}
 
 -- ---- no record is open and starting
 
 pub not-open : (s : Session) → starting s ≡ true → holds s ≡ false
-not-open s t = fails (holds s) (λ h. false≢true (ap (λ k. stateHolds k s) (sym (keeps-rules s t .state)) ∙ holding s h .state))
+not-open s t = fails (holds s) (λ h. false≢true (ap (λ k. stateHolds k s) (sym (keeps-start s t .state)) ∙ holding s h .state))
 
 pub not-starting : (s : Session) → holds s ≡ true → starting s ≡ false
 not-starting s h = fails (starting s) (λ t. clash h (not-open s t))
@@ -59,21 +58,19 @@ not-awaiting : (s : Session) → holds s ≡ false → awaiting s ≡ false
 not-awaiting s h = fails (awaiting s) (λ t. clash (awaiting-holds s t) h)
 
 pub unopen : (s : Session) → holds s ≡ false → (call : Call) → Plain call → (step ours s call ≡ s) × (event ours s call ≡ refused7 call)
-unfolding predictOf correctOf withdrawOf
 unopen s h predict p =
-    let e = predict-7 s .1 (not-settled s h) in
-    (ap (λ n. predictBy n s .session) e, ap (λ n. predicting (predictBy n s .answer)) e)
+    let e = sym (predict-gives s (hit-not (not-settled s h))) in
+    (ap (λ r. r .session) e, ap (λ r. predicting (r .answer)) e)
 unopen s h (correct a) p =
-    let e = correct-7 s a .1 (not-awaiting s h) in
-    (ap (λ n. correctBy n s (wholeOf a) .session) e, ap (λ n. correcting a (correctBy n s (wholeOf a) .answer)) e)
+    let e = sym (correct-gives s a (hit-not (not-awaiting s h))) in
+    (ap (λ r. r .session) e, ap (λ r. correcting a (r .answer)) e)
 unopen s h withdraw p =
-    let e = withdraw-7 s .1 (not-awaiting s h) in
-    (ap (λ n. withdrawBy n s .session) e, ap (λ n. withdrawing (withdrawBy n s .answer)) e)
+    let e = sym (withdraw-gives s (hit-not (not-awaiting s h))) in
+    (ap (λ r. r .session) e, ap (λ r. withdrawing (r .answer)) e)
 unopen s h (refine floats) p = absurd p
 
 pub unrefined : (s : Session) → starting s ≡ false → (floats : List Float) → refineOf s floats ≡ record { session = s; answer = refused 7 }
-unfolding refineOf
-unrefined s f floats = ap (λ n. refineBy n s (laterRound s floats)) (refine-7 s floats .1 f)
+unrefined s f floats = sym (refine-gives s floats (hit-not f))
 
 pub unstarting : (s : Session) → starting s ≡ false → (floats : List Float) → (step ours s (refine floats) ≡ s) × (event ours s (refine floats) ≡ refused7 (refine floats))
 unstarting s f floats = (ap (λ r. r .session) (unrefined s f floats), ap (λ r. refining floats (r .answer)) (unrefined s f floats))
@@ -149,23 +146,19 @@ one-more s es (inr f) (refine floats) = inr (ap (λ r. starting (r .session)) (u
 
 module _ (r : Request) where
   -- the answer's number is the refusal's
-  pub start-number : startNumber ours r ≡ start-refusal r
-  start-number = ap (λ a. a .number) (start-answers (r .points) (r .tolerances) (r .limit) (r .start) (r .floats))
+  pub start-number : startNumber ours r ≡ startRefusal r
+  start-number = ap (λ a. a .number) (start-answers r)
 
   pub first-closes : NotZero (startNumber ours r) → ours .starts r .session ≡ closedSession
-  first-closes f = start-closes (r .points) (r .tolerances) (r .limit) (r .start) (r .floats) (λ e. f (start-number ∙ e))
+  first-closes f = start-closes r (λ e. f (start-number ∙ e))
 
   pub first-leaves : (ours .starts r .session ≡ closedSession) ⊎ (starting (ours .starts r .session) ≡ true)
-  first-leaves = start-leaves (r .points) (r .tolerances) (r .limit) (r .start) (r .floats)
-
-  begins-at-0 : start-refusal r ≡ 0 → ours .starts r .session .corrections ≡ 0
-  unfolding startOf startingSession
-  begins-at-0 e = ap (λ n. startBy n (r .tolerances) (r .limit) (wholePoint (r .start)) (givenRound (r .points) (wholePoint (r .start)) (r .floats)) .session .corrections) e
+  first-leaves = start-leaves r
 
   counts-on : startNumber ours r ≡ 0 → (calls : List Call) → Counting (after ours (ours .starts r .session) calls) (mores 0 (history ours (ours .starts r .session) calls))
   counts-on e [] =
       let z = sym start-number ∙ e in
-      inl (start-begins (r .points) (r .tolerances) (r .limit) (r .start) (r .floats) z, begins-at-0 z)
+      inl (start-begins r z, start-counts r z)
   counts-on e (call ∷ calls) = one-more (after ours (ours .starts r .session) calls) (history ours (ours .starts r .session) calls) (counts-on e calls) call
 
   pub rounds-counted : startNumber ours r ≡ 0 → (calls : List Call) → starting (after ours (ours .starts r .session) calls) ≡ true →

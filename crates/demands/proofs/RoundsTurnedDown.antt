@@ -5,18 +5,19 @@ use Prim.Native.Nat.{_*_, _≤_, _<_}
 use native.Mathlib.Omega.{arith}
 use lib.IntN.{pos}
 use Rattle.exact.specs.Numerator.{D}
-use Rattle.starting.proofs.Rules.{keeps-rules}
-use Rattle.rounds.specs.Refusals.{laterRound}
-use Rattle.rounds.proofs.Opened.{later-points}
-use Rattle.demands.specs.Coordinates.{onX}
-use Rattle.demands.specs.Refusals.{Unrefused, RoundWithin, startTable, refineTable}
+use Rattle.epoch_session.proofs.Rules.{keeps-start}
+use Rattle.epoch_steps.specs.Refusals.{laterRound}
+use Rattle.epoch_steps.proofs.Left.{later-points}
+use Rattle.session.specs.Coordinates.{onX}
+use Rattle.rules.specs.Rules.{Unrefused}
+use Rattle.demands.specs.Refusals.{RoundWithin, startTable, refineTable}
 use Rattle.demands.specs.Demands.{Demand2, Counts, Leaves}
 use Rattle.demands.specs.BadVersions.{openingAtOnce, openingAnyhow, neverCounting, ignoringVelocitiesOfRounds}
-use Rattle.demands.proofs.TablesOfRounds.{start-none, refine-table, round-agreement}
-use Rattle.demands.proofs.Rounds.{start-number, refine-number}
-use Rattle.demands.proofs.Ours.{demand1}
+use Rattle.demands.proofs.Rounds.{start-number}
+use Rattle.demands.proofs.Ours.{start-none, refine-none}
 use Rattle.demands.proofs.Examples.{stateNumber}
 use Rattle.demands.proofs.RoundExamples.{force, first, begun, moved, turning, kind, computed}
+use Rattle.demands.proofs.Conditions.{rounds-apart}
 
 -- ---- no rule refuses the first round, nor a later one
 
@@ -24,14 +25,10 @@ pub unrefused-first : Unrefused (startTable first)
 unrefused-first = start-none first .0 (computed .unrefused)
 
 pub unrefused-same : Unrefused (refineTable begun (force (pos 12)))
-unrefused-same =
-    let (_, (_, (_, (_, (_, (_, none)))))) = demand1 .refines begun (force (pos 12)) in
-    none .0 (refine-number begun (force (pos 12)) ∙ computed .unrefusedSame)
+unrefused-same = refine-none begun (force (pos 12)) .0 (computed .unrefusedSame)
 
 pub unrefused-other : Unrefused (refineTable begun (force (pos 24)))
-unrefused-other =
-    let (_, (_, (_, (_, (_, (_, none)))))) = demand1 .refines begun (force (pos 24)) in
-    none .0 (refine-number begun (force (pos 24)) ∙ computed .unrefusedOther)
+unrefused-other = refine-none begun (force (pos 24)) .0 (computed .unrefusedOther)
 
 -- the newest position moved by 6 ticks, and its tolerance is 0
 pub not-within : ¬ RoundWithin begun (laterRound begun (force (pos 24)))
@@ -48,7 +45,7 @@ openingAtOnce2 d = omega (arith, sym (ap kind (computed .atOnce)) ∙ ap (λ a. 
 pub openingAtOnceLeaves : ¬ Leaves openingAtOnce
 openingAtOnceLeaves d =
     ⊎-elim (λ e. omega (arith, sym (computed .atOnceState) ∙ ap (λ s. stateNumber (s .state)) e ∙ computed .closedState))
-    (λ t. omega (arith, sym (computed .atOnceState) ∙ ap stateNumber (keeps-rules (openingAtOnce .starts first .session) t .state)))
+    (λ t. omega (arith, sym (computed .atOnceState) ∙ ap stateNumber (keeps-start (openingAtOnce .starts first .session) t .state)))
     (d .starts first)
 
 -- ---- opens at any later round, also where a point moved
@@ -60,8 +57,8 @@ openingAnyhow2 d = omega (arith, sym (ap kind (computed .anyhow)) ∙ ap (λ a. 
 
 pub ignoringVelocitiesOfRounds2 : ¬ Demand2 ignoringVelocitiesOfRounds
 ignoringVelocitiesOfRounds2 d =
-    let (_, (_, (_, (_, (_, (_, none)))))) = refine-table turning (force (pos 24)) in
-    let more = d .asksMore turning (force (pos 24)) (none .0 (computed .turnsMore)) (round-agreement turning (force (pos 24)) .no .0 (computed .turned)) in
+    let floats = force (pos 24) in
+    let more = d .asksMore turning floats (refine-none turning floats .0 (computed .turnsMore)) (rounds-apart turning (laterRound turning floats) .no .0 (computed .turned)) in
     omega (arith, sym (ap kind (computed .ignored)) ∙ ap (λ a. kind (a .answer .outcome)) more)
 
 -- ---- counts no round: one asked for more, and the record counts none

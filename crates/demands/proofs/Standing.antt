@@ -21,9 +21,10 @@ use Rattle.session.specs.declared.Session.{Session}
 use Rattle.session.specs.Moves.{presentPoint, predictedPoint, correctedPoint, settledAgain, awaitingAt, acceptedAt}
 use Rattle.session.proofs.Rules.{holding, counts-are}
 use Rattle.steps.specs.Answers.{reportedMotion, reportedPoint}
-use Rattle.demands.specs.Coordinates.{Coordinate, axisOf, ticksOn, motionOn}
+use Rattle.demands.specs.Coordinates.{reportedOn}
+use Rattle.session.specs.Coordinates.{onX, onY, onZ, Coordinate, axisOf, ticksOn, motionOn}
 use Rattle.demands.specs.ClosedForm.{Origin, Begins, samples, firstSum, secondBefore, secondSum, positionAt, velocityAt, nextPosition, nextVelocity, Stands, Carries, Predicts, Corrects}
-use Rattle.demands.proofs.Parts.{settled-axis, awaiting-axis, accepted-axis, present-on, predicted-on, corrected-on, reported-on}
+use Rattle.session.proofs.Coordinates.{settled-axis, awaiting-axis, accepted-axis, present-on, predicted-on, corrected-on}
 
 -- ---- motions by their numerators
 
@@ -77,6 +78,12 @@ module _ (o : Origin) (ws : List WholeSample) (s : Session) (small : o .points �
       ∙ (λ i. motionOf (h .second k i +ℤ sum-in-front PositionCorrector w i) (h .first k i +ℤ ticks (ticksOn k w) +ℤ sum-in-front VelocityCorrector w i))
 
 -- ---- the answers
+
+reported-on : (q : Point) (k : Coordinate) → reportedOn k (reportedPoint q) ≡ reportedMotion (motionOn k q)
+unfolding reportedPoint
+reported-on q onX = refl
+reported-on q onY = refl
+reported-on q onZ = refl
 
 -- a point that is reported carries its exact values
 carries : (q : Point) (x v : Coordinate → ℤ) → ((k : Coordinate) → motionOn k q ≡ motionOf (x k) (v k)) → Carries (reportedPoint q) x v

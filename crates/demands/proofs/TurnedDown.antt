@@ -13,19 +13,23 @@ use Rattle.steps.specs.declared.Prediction.{Prediction}
 use Rattle.steps.specs.declared.Prediction.the-variants as P
 use Rattle.steps.specs.Answers.{noPoint, reportedPoint, predictionAnswer, correctionAnswer}
 use Rattle.steps.specs.Steps.{predictOf}
-use Rattle.demands.specs.Coordinates.{onX}
+use Rattle.session.specs.Coordinates.{onX}
 use Rattle.demands.specs.Histories.{Call, predict, correct, withdraw, refine, predicting, correcting, after, history, entries, samplesOf}
-use Rattle.demands.specs.Refusals.{Exactly, Unrefused, openTable, predictTable}
+use Rattle.rules.specs.Rules.{Exactly, Unrefused}
+use Rattle.demands.specs.Refusals.{openTable, predictTable, correctTable}
 use Rattle.demands.specs.ClosedForm.{Origin, Begins, origin, Predicts, Corrects, Tells}
-use Rattle.demands.specs.Demands.{Unsummed, Demand1, Demand2, Formulas, Demand3, Counts, Leaves}
+use Rattle.demands.specs.Demands.{Unsummed, Demand1, Demand2, Formulas, Demand3, Counts, Leaves, correctNumber}
 use Rattle.demands.specs.BadVersions.{zeroed, refusing, predictingZero, unmoving, repeating, inventingPoints, inventingCorrections, ignoringVelocities}
 use Rattle.demands.specs.Theorems.{TurnedDown}
-use Rattle.demands.proofs.Tables.{open-table, predict-table, correct-table, agreement}
 use Rattle.demands.proofs.Opens.{open-begins}
 use Rattle.demands.proofs.Alike.{same-point}
-use Rattle.demands.proofs.Ours.{demand1}
+use Rattle.demands.proofs.Ours.{demand1, open-none, predict-none, correct-none}
 use Rattle.demands.proofs.RoundsTurnedDown as R
 use Rattle.demands.proofs.Examples.{wide, turning, turningOnce, waiting, start, a24, round, repeatingOnce, repeatingWaits, predicted, stateNumber, computed}
+use Rattle.demands.proofs.Conditions.{agreement}
+use Rattle.demands.proofs.Tables.{correct-first}
+use Rattle.rules.specs.Readings.{one-exactly}
+use Rattle.steps.specs.Refusals.{correctRefusal}
 
 clash : _≡_ {A = ℕ} 0 1 → ⊥
 clash h = omega arith
@@ -33,10 +37,10 @@ clash h = omega arith
 -- ---- the session of the figures is opened, and its prediction is not refused
 
 pub unrefused-open : Unrefused (openTable wide)
-unrefused-open = let (_, (_, (_, (_, (_, (_, none)))))) = open-table wide in none .0 (computed .opens)
+unrefused-open = open-none wide .0 (computed .opens)
 
 pub unrefused-predict : Unrefused (predictTable (start wide))
-unrefused-predict = let (_, (_, (_, none))) = predict-table (start wide) in none .0 (computed .predicts)
+unrefused-predict = predict-none (start wide) .0 (computed .predicts)
 
 pub begins : Begins (origin wide) (start wide)
 begins = open-begins wide (computed .opened)
@@ -70,8 +74,7 @@ unmoving2 d = omega (arith, sym (computed .stateFirst) ∙ ap (λ r. stateNumber
 
 repeating2 : ¬ Demand2 repeating
 repeating2 d =
-    let (_, (_, (_, none))) = predict-table repeatingOnce in
-    let e : pos 1017 ≡ pos 1057 = sym (computed .point1Again) ∙ ap (λ r. predicted (r .answer)) (d .predicts repeatingOnce (none .0 (computed .next))) ∙ computed .point2 in
+    let e : pos 1017 ≡ pos 1057 = sym (computed .point1Again) ∙ ap (λ r. predicted (r .answer)) (d .predicts repeatingOnce (predict-none repeatingOnce .0 (computed .next))) ∙ computed .point2 in
     omega (arith, ap natAbs e)
 
 repeating3 : ¬ Demand3 repeating
@@ -163,14 +166,13 @@ predictingZero1 =
 
 ignoringVelocities1 : ¬ Demand1 ignoringVelocities
 ignoringVelocities1 d =
-    let (_, (_, (_, (_, (eight, _))))) = correct-table (waiting turningOnce) a24 in
-    let (_, (_, (_, (_, (given, _))))) = d .corrects (waiting turningOnce) a24 in
-    omega (arith, sym (computed .ignoredLast) ∙ given .1 (eight .0 (computed .turnedLast)))
+    let s = waiting turningOnce in
+    let number = one-exactly (correctTable s a24) (correctNumber ignoringVelocities s a24) (correctRefusal s a24) (correct-first s a24) (d .corrects s a24) in
+    omega (arith, sym (computed .ignoredLast) ∙ number ∙ computed .turnedLast)
 
 ignoringVelocities2 : ¬ Demand2 ignoringVelocities
 ignoringVelocities2 d =
-    let (_, (_, (_, (_, (_, none))))) = correct-table (waiting turning) a24 in
-    let again = d .repeats (waiting turning) a24 (none .0 (computed .turnsAgain)) (agreement (waiting turning) _ .no .0 (computed .turned)) in
+    let again = d .repeats (waiting turning) a24 (correct-none (waiting turning) a24 .0 (computed .turnsAgain)) (agreement (waiting turning) _ .no .0 (computed .turned)) in
     omega (arith, sym (computed .ignored) ∙ ap (λ r. correctionAnswer (r .answer) .kind) again)
 
 pub turned-down : TurnedDown

@@ -1,8 +1,7 @@
 -- Demands 1 and 2 leave no choice: they settle the answer and the record of every call on every input.
 use mathlib.Core.Path.{_≡_, refl, sym, ap, _∙_}
-use mathlib.Core.Logic.{inl, inr}
 use mathlib.Core.Bool.{Bool, true, false, cond}
-use mathlib.Core.List.{List, [], _∷_, _++_}
+use mathlib.Core.List.{List}
 use Prim.Native.Nat.{ℕ, zero, suc}
 use native.Mathlib.Omega.{arith}
 use native.Mathlib.Nat.{suc-ne-zero}
@@ -13,8 +12,8 @@ use Rattle.ticks.specs.declared.Sample.{Sample}
 use Rattle.ticks.specs.Samples.{wholeOf}
 use Rattle.session.specs.declared.Session.{Session}
 use Rattle.session.specs.Moves.{correctedPoint, settledAgain, closedSession}
-use Rattle.starting.specs.Rounds.{roundsAgree}
-use Rattle.starting.specs.Records.{heldRound}
+use Rattle.epoch_session.specs.Rounds.{roundsAgree}
+use Rattle.epoch_session.specs.Records.{heldRound}
 use Rattle.steps.specs.declared.ReportedPoint.{ReportedPoint}
 use Rattle.steps.specs.declared.Opening.{Opening}
 use Rattle.steps.specs.declared.Prediction.{Prediction}
@@ -24,42 +23,23 @@ use Rattle.steps.specs.declared.Opening.the-variants as O
 use Rattle.steps.specs.declared.Prediction.the-variants as P
 use Rattle.steps.specs.declared.Correction.the-variants as C
 use Rattle.steps.specs.declared.Withdrawal.the-variants as W
-use Rattle.steps.specs.Answers.{openingAnswer, predictionAnswer, correctionAnswer, withdrawalAnswer, NotZero}
-use Rattle.steps.specs.Refusals.{predictRefusal, agrees, correctRefusal, withdrawRefusal}
-use Rattle.steps.proofs.Rules.{Among}
-use Rattle.steps.proofs.Refusals.{open-numbers, predict-numbers, correct-numbers, withdraw-numbers}
-use Rattle.rounds.specs.declared.Outcome.{Outcome}
-use Rattle.rounds.specs.declared.RoundAnswer.{RoundAnswer}
-use Rattle.rounds.specs.declared.Outcome.the-variants as R
-use Rattle.rounds.specs.Answers.{noPoints, outcomeValues, roundAnswer}
-use Rattle.rounds.specs.Refusals.{laterRound, refineRefusal}
-use Rattle.rounds.specs.Steps.{refused}
-use Rattle.rounds.proofs.Refusals.{refine-numbers}
-use Rattle.demands.specs.Histories.{Request, Implementation}
-use Rattle.demands.specs.Refusals.{Rule, Continues, Exactly, Unrefused, openTable, predictTable, correctTable, withdrawTable, startTable, refineTable}
+use Rattle.rules.specs.Rules.{NotZero, Unrefused}
+use Rattle.steps.specs.Answers.{openingAnswer, predictionAnswer, correctionAnswer, withdrawalAnswer}
+use Rattle.steps.specs.Refusals.{predictRefusal, agrees, correctRefusal, withdrawRefusal, openRefusal}
+use Rattle.epoch_steps.specs.declared.Outcome.{Outcome}
+use Rattle.epoch_steps.specs.declared.RoundAnswer.{RoundAnswer}
+use Rattle.epoch_steps.specs.declared.Outcome.the-variants as R
+use Rattle.epoch_steps.specs.Answers.{noPoints, outcomeValues, roundAnswer}
+use Rattle.epoch_steps.specs.Refusals.{laterRound, refineRefusal, startRefusal}
+use Rattle.epoch_steps.specs.Steps.{refused}
+use Rattle.session.specs.Requests.{Request}
+use Rattle.demands.specs.Histories.{Implementation}
+use Rattle.demands.specs.Refusals.{openTable, predictTable, correctTable, withdrawTable, startTable, refineTable}
 use Rattle.demands.specs.Demands.{openNumber, predictNumber, correctNumber, withdrawNumber, startNumber, refineNumber, Demand1, Demand2, Agree}
-use Rattle.demands.proofs.Tables.{agreement, open-table, predict-table, correct-table, withdraw-table}
-use Rattle.demands.proofs.TablesOfRounds.{one-first, start-refusal, start-table, start-none, round-agreement, refine-table}
-use Rattle.demands.proofs.Opens.{refusal}
-
--- ---- a table gives one number
-
-abbrev numbersOf : List Rule → List ℕ
-numbersOf [] = []
-numbersOf (r ∷ rs) = r .number ∷ numbersOf rs
-
-at-rule : (before rs : List Rule) (m n : ℕ) → Among n (numbersOf rs) → Continues before rs n → Continues before rs m → m ≡ n
-at-rule before [] m n h c d = absurd h
-at-rule before (r ∷ rs) m n (inl e) c d = d .0 .1 (c .0 .0 e) ∙ sym e
-at-rule before (r ∷ rs) m n (inr h) c d = at-rule (before ++ r ∷ []) rs m n h (c .1) (d .1)
-
-at-none : (before rs : List Rule) (m n : ℕ) → n ≡ 0 → Continues before rs n → Continues before rs m → m ≡ n
-at-none before [] m n e c d = d .1 (c .0 e) ∙ sym e
-at-none before (r ∷ rs) m n e c d = at-none (before ++ r ∷ []) rs m n e (c .1) (d .1)
-
-one-number : (rs : List Rule) (m n : ℕ) → Among n (0 ∷ numbersOf rs) → Exactly rs n → Exactly rs m → m ≡ n
-one-number rs m n (inl e) c d = at-none [] rs m n e c d
-one-number rs m n (inr h) c d = at-rule [] rs m n h c d
+use Rattle.demands.proofs.Conditions.{agreement, rounds-apart}
+use Rattle.demands.proofs.Tables.{open-first, predict-first, correct-first, withdraw-first, start-first, refine-first}
+use Rattle.demands.proofs.Ours.{open-none, predict-none, correct-none, withdraw-none, start-none, refine-none}
+use Rattle.rules.specs.Readings.{one-first, one-exactly}
 
 -- ---- a refusal's number is its answer
 
@@ -86,8 +66,8 @@ outcome-refused (R.More c) ps n e = absurd (omega arith)
 outcome-refused R.Opened ps n e = absurd (omega arith)
 outcome-refused (R.Refused m) ps n e = ap R.Refused e
 
-round-refused : (a : RoundAnswer) (n : ℕ) → roundAnswer a .number ≡ suc n → a .points ≡ noPoints → a ≡ refused (suc n)
-round-refused a n e b = λ i. record { outcome = outcome-refused (a .outcome) (a .points) n e i; points = b i }
+round-refused : (a : RoundAnswer) (n : ℕ) → roundAnswer a .number ≡ suc n → a .track ≡ noPoints → a ≡ refused (suc n)
+round-refused a n e b = λ i. record { outcome = outcome-refused (a .outcome) (a .track) n e i; track = b i }
 
 -- a number that is given
 given : {m n : ℕ} → m ≡ suc n → NotZero m
@@ -96,26 +76,26 @@ given e z = suc-ne-zero _ (sym e ∙ z)
 -- ---- the number is the table's, and where it is 0 no rule applies
 
 module _ (I : Implementation) (d : Demand1 I) where
-  opening-number : (r : Request) → openNumber I r ≡ refusal r
-  opening-number r = one-number (openTable r) (openNumber I r) (refusal r) (open-numbers (r .points) (r .tolerances) (r .limit) (r .start) (r .floats)) (open-table r) (d .opens r)
+  opening-number : (r : Request) → openNumber I r ≡ openRefusal r
+  opening-number r = one-exactly (openTable r) (openNumber I r) (openRefusal r) (open-first r) (d .opens r)
 
   prediction-number : (s : Session) → predictNumber I s ≡ predictRefusal s
-  prediction-number s = one-number (predictTable s) (predictNumber I s) (predictRefusal s) (predict-numbers s) (predict-table s) (d .predicts s)
+  prediction-number s = one-exactly (predictTable s) (predictNumber I s) (predictRefusal s) (predict-first s) (d .predicts s)
 
   correction-number : (s : Session) (a : Sample) → correctNumber I s a ≡ correctRefusal s a
-  correction-number s a = one-number (correctTable s a) (correctNumber I s a) (correctRefusal s a) (correct-numbers s a) (correct-table s a) (d .corrects s a)
+  correction-number s a = one-exactly (correctTable s a) (correctNumber I s a) (correctRefusal s a) (correct-first s a) (d .corrects s a)
 
   withdrawal-number : (s : Session) → withdrawNumber I s ≡ withdrawRefusal s
-  withdrawal-number s = one-number (withdrawTable s) (withdrawNumber I s) (withdrawRefusal s) (withdraw-numbers s) (withdraw-table s) (d .withdraws s)
+  withdrawal-number s = one-exactly (withdrawTable s) (withdrawNumber I s) (withdrawRefusal s) (withdraw-first s) (d .withdraws s)
 
-  first-round-number : (r : Request) → startNumber I r ≡ start-refusal r
-  first-round-number r = one-first (startTable r) (startNumber I r) (start-refusal r) (start-table r) (d .starts r)
+  first-round-number : (r : Request) → startNumber I r ≡ startRefusal r
+  first-round-number r = one-first (startTable r) (startNumber I r) (startRefusal r) (start-first r) (d .starts r)
 
   later-round-number : (s : Session) (floats : List Float) → refineNumber I s floats ≡ refineRefusal s floats
-  later-round-number s floats = one-number (refineTable s floats) (refineNumber I s floats) (refineRefusal s floats) (refine-numbers s floats) (refine-table s floats) (d .refines s floats)
+  later-round-number s floats = one-exactly (refineTable s floats) (refineNumber I s floats) (refineRefusal s floats) (refine-first s floats) (d .refines s floats)
 
   -- what a refusal of the table's number n + 1 leaves and answers
-  refused-opening : (r : Request) (n : ℕ) → refusal r ≡ suc n → I .opens r ≡ record { session = closedSession; answer = O.Refused (suc n) }
+  refused-opening : (r : Request) (n : ℕ) → openRefusal r ≡ suc n → I .opens r ≡ record { session = closedSession; answer = O.Refused (suc n) }
   refused-opening r n h =
       let m = opening-number r ∙ h in
       λ i. record { session = d .closed r (given m) i; answer = opening-refused (I .opens r .answer) n m i }
@@ -140,7 +120,7 @@ module _ (I : Implementation) (d : Demand1 I) where
       left true e = d .settled s a (m ∙ eqb-true (suc n) 8 e)
       left false e = d .uncorrected s a (given m) (λ f. eqb-false (suc n) 8 e (sym m ∙ f))
 
-  refused-first-round : (r : Request) (n : ℕ) → start-refusal r ≡ suc n → I .starts r ≡ record { session = closedSession; answer = refused (suc n) }
+  refused-first-round : (r : Request) (n : ℕ) → startRefusal r ≡ suc n → I .starts r ≡ record { session = closedSession; answer = refused (suc n) }
   refused-first-round r n h =
       let m = first-round-number r ∙ h in
       λ i. record { session = d .unstarted r (given m) i; answer = round-refused (I .starts r .answer) n m (d .blankStart r (given m)) i }
@@ -158,12 +138,12 @@ module _ (I : Implementation) (d : Demand1 I) where
 -- ---- two implementations
 
 module _ (I J : Implementation) (d : Demand1 I) (e : Demand2 I) (f : Demand1 J) (g : Demand2 J) where
-  same-opening : (r : Request) (n : ℕ) → refusal r ≡ n → I .opens r ≡ J .opens r
-  same-opening r zero h = let (_, (_, (_, (_, (_, (_, none)))))) = open-table r in e .opens r (none .0 h) ∙ sym (g .opens r (none .0 h))
+  same-opening : (r : Request) (n : ℕ) → openRefusal r ≡ n → I .opens r ≡ J .opens r
+  same-opening r zero h = let u = open-none r .0 h in e .opens r u ∙ sym (g .opens r u)
   same-opening r (suc n) h = refused-opening I d r n h ∙ sym (refused-opening J f r n h)
 
   same-prediction : (s : Session) (n : ℕ) → predictRefusal s ≡ n → I .predicts s ≡ J .predicts s
-  same-prediction s zero h = let (_, (_, (_, none))) = predict-table s in e .predicts s (none .0 h) ∙ sym (g .predicts s (none .0 h))
+  same-prediction s zero h = let u = predict-none s .0 h in e .predicts s u ∙ sym (g .predicts s u)
   same-prediction s (suc n) h = refused-prediction I d s n h ∙ sym (refused-prediction J f s n h)
 
   same-judgement : (s : Session) (a : Sample) → Unrefused (correctTable s a) → (t : Bool) → agrees s (correctedPoint s (wholeOf a)) ≡ t → I .corrects s a ≡ J .corrects s a
@@ -171,34 +151,32 @@ module _ (I J : Implementation) (d : Demand1 I) (e : Demand2 I) (f : Demand1 J) 
   same-judgement s a u false h = let w = agreement s (correctedPoint s (wholeOf a)) .no .0 h in e .repeats s a u w ∙ sym (g .repeats s a u w)
 
   same-correction : (s : Session) (a : Sample) (n : ℕ) → correctRefusal s a ≡ n → I .corrects s a ≡ J .corrects s a
-  same-correction s a zero h = let (_, (_, (_, (_, (_, none))))) = correct-table s a in same-judgement s a (none .0 h) (agrees s (correctedPoint s (wholeOf a))) refl
+  same-correction s a zero h = same-judgement s a (correct-none s a .0 h) (agrees s (correctedPoint s (wholeOf a))) refl
   same-correction s a (suc n) h = refused-correction I d s a n h ∙ sym (refused-correction J f s a n h)
 
   same-withdrawal : (s : Session) (n : ℕ) → withdrawRefusal s ≡ n → I .withdraws s ≡ J .withdraws s
-  same-withdrawal s zero h = let (_, none) = withdraw-table s in e .withdraws s (none .0 h) ∙ sym (g .withdraws s (none .0 h))
+  same-withdrawal s zero h = let u = withdraw-none s .0 h in e .withdraws s u ∙ sym (g .withdraws s u)
   same-withdrawal s (suc n) h = refused-withdrawal I d s n h ∙ sym (refused-withdrawal J f s n h)
 
-  same-first-round : (r : Request) (n : ℕ) → start-refusal r ≡ n → I .starts r ≡ J .starts r
+  same-first-round : (r : Request) (n : ℕ) → startRefusal r ≡ n → I .starts r ≡ J .starts r
   same-first-round r zero h = let u = start-none r .0 h in e .starts r u ∙ sym (g .starts r u)
   same-first-round r (suc n) h = refused-first-round I d r n h ∙ sym (refused-first-round J f r n h)
 
   same-round-judgement : (s : Session) (floats : List Float) → Unrefused (refineTable s floats) → (t : Bool) → roundsAgree (s .tolerances) (laterRound s floats) (heldRound s) ≡ t → I .refines s floats ≡ J .refines s floats
-  same-round-judgement s floats u true h = let w = round-agreement s floats .yes .0 h in e .opensRound s floats u w ∙ sym (g .opensRound s floats u w)
-  same-round-judgement s floats u false h = let w = round-agreement s floats .no .0 h in e .asksMore s floats u w ∙ sym (g .asksMore s floats u w)
+  same-round-judgement s floats u true h = let w = rounds-apart s (laterRound s floats) .yes .0 h in e .opensRound s floats u w ∙ sym (g .opensRound s floats u w)
+  same-round-judgement s floats u false h = let w = rounds-apart s (laterRound s floats) .no .0 h in e .asksMore s floats u w ∙ sym (g .asksMore s floats u w)
 
   same-later-round : (s : Session) (floats : List Float) (n : ℕ) → refineRefusal s floats ≡ n → I .refines s floats ≡ J .refines s floats
-  same-later-round s floats zero h =
-      let (_, (_, (_, (_, (_, (_, none)))))) = refine-table s floats in
-      same-round-judgement s floats (none .0 h) (roundsAgree (s .tolerances) (laterRound s floats) (heldRound s)) refl
+  same-later-round s floats zero h = same-round-judgement s floats (refine-none s floats .0 h) (roundsAgree (s .tolerances) (laterRound s floats) (heldRound s)) refl
   same-later-round s floats (suc n) h = refused-later-round I d s floats n h ∙ sym (refused-later-round J f s floats n h)
 
   pub unique : Agree I J
   unique =
       record {
-        opens = λ r. same-opening r (refusal r) refl;
+        opens = λ r. same-opening r (openRefusal r) refl;
         predicts = λ s. same-prediction s (predictRefusal s) refl;
         corrects = λ s a. same-correction s a (correctRefusal s a) refl;
         withdraws = λ s. same-withdrawal s (withdrawRefusal s) refl;
-        starts = λ r. same-first-round r (start-refusal r) refl;
+        starts = λ r. same-first-round r (startRefusal r) refl;
         refines = λ s floats. same-later-round s floats (refineRefusal s floats) refl;
       }

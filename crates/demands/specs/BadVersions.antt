@@ -4,11 +4,10 @@ use mathlib.Core.Bool.{Bool, true, false, cond}
 use mathlib.Core.List.{List}
 use lib.Dec.{eqb}
 use lib.Ieee.{Float}
-use Rattle.integers.specs.Tests.{_and_}
 use Rattle.ticks.specs.declared.Sample.{Sample}
 use Rattle.ticks.specs.Samples.{wholeOf}
 use Rattle.axis.specs.declared.Tolerances.{Tolerances}
-use Rattle.axis.specs.Agreement.{within}
+use Rattle.axis.specs.Kinds.{within}
 use Rattle.session.specs.declared.Point.{Point}
 use Rattle.session.specs.declared.Session.{Session}
 use Rattle.session.specs.declared.State.the-variants.{Settled}
@@ -22,15 +21,16 @@ use Rattle.steps.specs.declared.Correction.the-variants as C
 use Rattle.steps.specs.declared.Withdrawal.the-variants as W
 use Rattle.steps.specs.Answers.{noPoint, reportedPoint}
 use Rattle.steps.specs.Steps.{predictOf, correctOf, withdrawOf}
-use Rattle.steps.specs.Opening.{wholePoint}
-use Rattle.starting.specs.Rounds.{earlierPoint, everyBelow}
-use Rattle.starting.specs.Records.{heldRound, openedRound}
-use Rattle.rounds.specs.declared.AfterRound.{AfterRound}
-use Rattle.rounds.specs.declared.Outcome.{Outcome}
-use Rattle.rounds.specs.declared.Outcome.the-variants as R
-use Rattle.rounds.specs.Refusals.{givenRound, laterRound}
-use Rattle.rounds.specs.Steps.{told, refused, refineOf}
-use Rattle.demands.specs.Histories.{Request, Implementation, ours}
+use Rattle.session.specs.Requests.{Request}
+use Rattle.epoch_session.specs.Rounds.{earlierPoint, everyBelow}
+use Rattle.epoch_session.specs.Records.{heldRound, openedRound}
+use Rattle.epoch_steps.specs.declared.AfterRound.{AfterRound}
+use Rattle.epoch_steps.specs.declared.Outcome.{Outcome}
+use Rattle.epoch_steps.specs.declared.Outcome.the-variants as R
+use Rattle.epoch_steps.specs.Refusals.{firstRound, laterRound}
+use Rattle.epoch_steps.specs.Steps.{told, refused, refineOf}
+use Rattle.demands.specs.Histories.{Implementation, ours}
+use Rattle.integers.specs.Tests.{_and_}
 
 -- refuses everything
 abbrev pub refusing : Implementation
@@ -128,7 +128,7 @@ inventingCorrections =
 -- opens at its first round, which was compared with nothing
 abbrev pub openedAtOnce : Request → AfterRound → Outcome → AfterRound
 openedAtOnce r a (R.More c) =
-    let round = givenRound (r .points) (wholePoint (r .start)) (r .floats) in
+    let round = firstRound r in
     record { session = openedRound (r .tolerances) (r .limit) round; answer = told R.Opened round }
 openedAtOnce r a R.Opened = a
 openedAtOnce r a (R.Refused n) = a

@@ -18,11 +18,13 @@ use Rattle.session.specs.Holding.{holds}
 use Rattle.steps.specs.declared.ReportedPoint.{ReportedPoint}
 use Rattle.steps.specs.declared.Prediction.the-variants as P
 use Rattle.steps.specs.declared.Correction.the-variants as C
-use Rattle.steps.specs.Opening.{wholePoint, axisSamples}
-use Rattle.starting.specs.Rounds.{earlierPoint}
-use Rattle.rounds.specs.Refusals.{laterRound}
-use Rattle.demands.specs.Coordinates.{Coordinate, onX, onY, onZ, axisOf, ticksOn, positionOf, velocityOf, positionIn, velocityIn}
-use Rattle.demands.specs.Histories.{Request, Event, predicting, correcting, withdrawing, refining, entries, samplesOf}
+use Rattle.session.specs.Requests.{exactPoint, Request}
+use Rattle.steps.specs.Opening.{axisSamples}
+use Rattle.epoch_session.specs.Rounds.{earlierPoint}
+use Rattle.epoch_steps.specs.Refusals.{laterRound}
+use Rattle.demands.specs.Coordinates.{positionOf, velocityOf, positionIn, velocityIn}
+use Rattle.session.specs.Coordinates.{Coordinate, onX, onY, onZ, axisOf, ticksOn}
+use Rattle.demands.specs.Histories.{Event, predicting, correcting, withdrawing, refining, entries, samplesOf}
 
 -- ---- an opening, whatever way it was made: p, the exact position and velocity of point 0, and the samples a(0), a(-1), .., a(1-p)
 
@@ -54,7 +56,7 @@ openingSamples r k = axisSamples (r .points) (place k) (r .floats)
 
 -- the opening that an `open` asks for
 abbrev pub origin : Request → Origin
-origin r = originAt (r .points) (wholePoint (r .start)) (openingSamples r)
+origin r = originAt (r .points) (exactPoint (r .point)) (openingSamples r)
 
 -- the opening that a later round gives where it opens: the round's newest point, and its samples
 abbrev pub startOrigin : Session → List Float → Origin

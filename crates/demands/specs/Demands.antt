@@ -9,7 +9,7 @@ use lib.Ieee.{Float}
 use lib.ListN.{length}
 use Rattle.integers.specs.Differences.{inFront, byDifferences}
 use Rattle.exact.specs.Numerator.{D}
-use Rattle.coefficients.specs.Fraction.{_over_, _≐_}
+use Rattle.coefficients.specs.Fraction.{_≐_, _over_}
 use Rattle.coefficients.specs.Rules.{c, l}
 use Rattle.coefficients.specs.Formulas.{unsummedCowell, adamsMoulton, series}
 use Rattle.ticks.specs.declared.Sample.{Sample}
@@ -23,18 +23,21 @@ use Rattle.steps.specs.declared.Opening.the-variants as O
 use Rattle.steps.specs.declared.Prediction.the-variants as P
 use Rattle.steps.specs.declared.Correction.the-variants as C
 use Rattle.steps.specs.declared.Withdrawal.the-variants as W
-use Rattle.steps.specs.Answers.{reportedPoint, reportedChange, noChange, openingAnswer, predictionAnswer, correctionAnswer, withdrawalAnswer, NotZero}
-use Rattle.steps.specs.Opening.{wholePoint, openedWith}
+use Rattle.rules.specs.Rules.{NotZero, Exactly, First, Unrefused}
+use Rattle.steps.specs.Answers.{reportedPoint, reportedChange, noChange, openingAnswer, predictionAnswer, correctionAnswer, withdrawalAnswer}
+use Rattle.session.specs.Requests.{exactPoint, Request}
+use Rattle.steps.specs.Opening.{openedWith}
 use Rattle.steps.specs.Refusals.{largestChange}
-use Rattle.starting.specs.Rounds.{largestMove}
-use Rattle.starting.specs.Records.{heldRound, starting, openedRound}
-use Rattle.rounds.specs.declared.Outcome.the-variants as R
-use Rattle.rounds.specs.Answers.{noPoints, roundAnswer}
-use Rattle.rounds.specs.Refusals.{givenRound, laterRound}
-use Rattle.rounds.specs.Steps.{told, startingFrom}
-use Rattle.demands.specs.Coordinates.{Coordinate, positionOf, velocityOf, positionIn, velocityIn}
-use Rattle.demands.specs.Histories.{Request, Implementation, Call, after, history, step, Entry, entries, samplesOf, agains, mores}
-use Rattle.demands.specs.Refusals.{Exactly, First, Unrefused, Within, RoundWithin, openTable, predictTable, correctTable, withdrawTable, startTable, refineTable}
+use Rattle.epoch_session.specs.Rounds.{largestMove}
+use Rattle.epoch_session.specs.Records.{heldRound, starting, openedRound}
+use Rattle.epoch_steps.specs.declared.Outcome.the-variants as R
+use Rattle.epoch_steps.specs.Answers.{noPoints, roundAnswer}
+use Rattle.epoch_steps.specs.Refusals.{firstRound, laterRound}
+use Rattle.epoch_steps.specs.Steps.{told, startingFrom}
+use Rattle.demands.specs.Coordinates.{positionOf, velocityOf, positionIn, velocityIn}
+use Rattle.session.specs.Coordinates.{Coordinate}
+use Rattle.demands.specs.Histories.{Implementation, Call, after, history, step, Entry, entries, samplesOf, agains, mores}
+use Rattle.demands.specs.Refusals.{Within, RoundWithin, openTable, predictTable, correctTable, withdrawTable, startTable, refineTable}
 use Rattle.demands.specs.ClosedForm.{Origin, Begins, origin, startOrigin, samples, Stands, Told}
 
 -- ---- demand 1: exactly when each call is refused, and what a refusal leaves
@@ -78,15 +81,15 @@ pub record Demand1 (I : Implementation) : Type 0 where
   pub ended : (s : Session) (floats : List Float) → refineNumber I s floats ≡ 8 → I .refines s floats .session ≡ closedSession
   pub unrefined : (s : Session) (floats : List Float) → NotZero (refineNumber I s floats) → ¬ (refineNumber I s floats ≡ 8) → I .refines s floats .session ≡ s
   -- a refused round has no points
-  pub blankStart : (r : Request) → NotZero (startNumber I r) → I .starts r .answer .points ≡ noPoints
-  pub blankRound : (s : Session) (floats : List Float) → NotZero (refineNumber I s floats) → I .refines s floats .answer .points ≡ noPoints
+  pub blankStart : (r : Request) → NotZero (startNumber I r) → I .starts r .answer .track ≡ noPoints
+  pub blankRound : (s : Session) (floats : List Float) → NotZero (refineNumber I s floats) → I .refines s floats .answer .track ≡ noPoints
 
 -- ---- demand 2: a call that no rule refuses gives the formulas' values and takes the formulas' step
 
 pub record Demand2 (I : Implementation) : Type 0 where
   -- the record asked for, and an answer without values
   pub opens : (r : Request) → Unrefused (openTable r) →
-      I .opens r ≡ record { session = openedWith (r .points) (r .tolerances) (r .limit) (wholePoint (r .start)) (r .floats); answer = O.Opened }
+      I .opens r ≡ record { session = openedWith (r .points) (r .tolerances) (r .limit) (exactPoint (r .point)) (r .floats); answer = O.Opened }
   -- the predicted point, which the record awaits
   pub predicts : (s : Session) → Unrefused (predictTable s) →
       I .predicts s ≡ record { session = awaitingAt s 0 (predictedPoint s); answer = P.Predicted (reportedPoint (predictedPoint s)) }
@@ -101,9 +104,8 @@ pub record Demand2 (I : Implementation) : Type 0 where
   pub withdraws : (s : Session) → Unrefused (withdrawTable s) → I .withdraws s ≡ record { session = settledAgain s; answer = W.Withdrawn }
   -- a first round asks for more, with no change: its points, and the record that holds its samples and the epoch
   pub starts : (r : Request) → Unrefused (startTable r) →
-      let q = wholePoint (r .start) in
-      let round = givenRound (r .points) q (r .floats) in
-      I .starts r ≡ record { session = startingFrom (r .tolerances) (r .limit) 0 q round; answer = told (R.More noChange) round }
+      let round = firstRound r in
+      I .starts r ≡ record { session = startingFrom (r .tolerances) (r .limit) 0 (exactPoint (r .point)) round; answer = told (R.More noChange) round }
   -- a later round opens the session at its newest point where at every point all six changes are within their own tolerance
   pub opensRound : (s : Session) (floats : List Float) → Unrefused (refineTable s floats) → RoundWithin s (laterRound s floats) →
       let round = laterRound s floats in

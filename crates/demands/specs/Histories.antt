@@ -6,9 +6,8 @@ use lib.Ieee.{Float}
 use Rattle.ticks.specs.declared.Sample.{Sample}
 use Rattle.ticks.specs.declared.WholeSample.{WholeSample}
 use Rattle.ticks.specs.Samples.{wholeOf}
-use Rattle.axis.specs.declared.Tolerances.{Tolerances}
 use Rattle.session.specs.declared.Session.{Session}
-use Rattle.steps.specs.declared.Start.{Start}
+use Rattle.session.specs.Requests.{Request}
 use Rattle.steps.specs.declared.ReportedPoint.{ReportedPoint}
 use Rattle.steps.specs.declared.AfterOpen.{AfterOpen}
 use Rattle.steps.specs.declared.AfterPredict.{AfterPredict}
@@ -20,21 +19,13 @@ use Rattle.steps.specs.declared.Withdrawal.{Withdrawal}
 use Rattle.steps.specs.declared.Prediction.the-variants as P
 use Rattle.steps.specs.declared.Correction.the-variants as C
 use Rattle.steps.specs.Steps.{openOf, predictOf, correctOf, withdrawOf}
-use Rattle.rounds.specs.declared.AfterRound.{AfterRound}
-use Rattle.rounds.specs.declared.RoundAnswer.{RoundAnswer}
-use Rattle.rounds.specs.declared.Outcome.{Outcome}
-use Rattle.rounds.specs.declared.Outcome.the-variants as R
-use Rattle.rounds.specs.Steps.{startOf, refineOf}
+use Rattle.epoch_steps.specs.declared.AfterRound.{AfterRound}
+use Rattle.epoch_steps.specs.declared.RoundAnswer.{RoundAnswer}
+use Rattle.epoch_steps.specs.declared.Outcome.{Outcome}
+use Rattle.epoch_steps.specs.declared.Outcome.the-variants as R
+use Rattle.epoch_steps.specs.Steps.{startOf, refineOf}
 
 -- ---- implementations
-
--- what `open` and a first round are given
-pub record Request : Type 0 where
-  pub points : ℕ
-  pub tolerances : Tolerances
-  pub limit : ℕ
-  pub start : Start
-  pub floats : List Float
 
 -- the six calls, as functions of what they are given; an opening and a first round do not look at the record that they replace
 pub record Implementation : Type 0 where
@@ -49,11 +40,11 @@ pub record Implementation : Type 0 where
 abbrev pub ours : Implementation
 ours =
     record {
-      opens = λ r. openOf (r .points) (r .tolerances) (r .limit) (r .start) (r .floats);
+      opens = openOf;
       predicts = predictOf;
       corrects = correctOf;
       withdraws = withdrawOf;
-      starts = λ r. startOf (r .points) (r .tolerances) (r .limit) (r .start) (r .floats);
+      starts = startOf;
       refines = refineOf;
     }
 
@@ -97,13 +88,13 @@ history I s (call ∷ calls) = event I (after I s calls) call ∷ history I s ca
 -- openings and first rounds among the calls
 pub data Act : Type 0 where
   opening : Request → Act
-  firstRound : Request → Act
+  beginning : Request → Act
   calling : Call → Act
 
 abbrev pub lived : Implementation → Session → List Act → Session
 lived I s [] = s
 lived I s (opening r ∷ acts) = I .opens r .session
-lived I s (firstRound r ∷ acts) = I .starts r .session
+lived I s (beginning r ∷ acts) = I .starts r .session
 lived I s (calling call ∷ acts) = step I (lived I s acts) call
 
 -- ---- what the answers of a history tell

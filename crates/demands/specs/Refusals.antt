@@ -1,7 +1,7 @@
--- The paper's table of refusals, a list for each call in its order, with the conditions as statements, and what it is that a number is the table's. Definitions only.
+-- The paper's table of refusals, a list for each call in its order, with the conditions as statements. Definitions only.
 use mathlib.Core.Path.{_≡_}
 use mathlib.Core.Bool.{true}
-use mathlib.Core.Logic.{_↔_, _⊎_}
+use mathlib.Core.Logic.{_⊎_}
 use mathlib.Core.List.{List, [], _∷_, _++_}
 use Prim.Native.Nat.{ℕ, _+_, _*_, _^_, _≤_, _<_}
 use lib.IntN.{natAbs, _-ℤ_}
@@ -18,45 +18,14 @@ use Rattle.session.specs.Numbers.{mostPoints}
 use Rattle.session.specs.Moves.{estimateOf, predictedPoint, correctedPoint}
 use Rattle.session.specs.Holding.{settled, awaiting}
 use Rattle.session.specs.Ready.{PlacedPoint}
-use Rattle.steps.specs.Opening.{wholePoint}
-use Rattle.starting.specs.declared.Round.{Round}
-use Rattle.starting.specs.Rounds.{earlierPoint}
-use Rattle.starting.specs.Records.{heldRound, starting}
-use Rattle.rounds.specs.Refusals.{givenRound, laterRound}
-use Rattle.demands.specs.Coordinates.{Coordinate, positionOf, velocityOf}
-use Rattle.demands.specs.Histories.{Request}
-
--- ---- tables
-
--- a number, and when it is given
-pub record Rule : Type 1 where
-  pub number : ℕ
-  pub when : Type 0
-
-abbrev pub rule : ℕ → Type 0 → Rule
-rule n A = record { number = n; when = A }
-
--- none of these rules applies, and A
-abbrev pub NoneAnd : List Rule → Type 0 → Type 0
-NoneAnd [] A = A
-NoneAnd (r ∷ rs) A = (¬ r .when) × NoneAnd rs A
-
--- no rule of a table applies
-abbrev pub Unrefused : List Rule → Type 0
-Unrefused rs = NoneAnd rs (Unit {0})
-
--- n is each rule's number exactly when that rule applies and none before it does, and 0 exactly when none does
-abbrev pub Continues : List Rule → List Rule → ℕ → Type 0
-Continues before [] n = (n ≡ 0) ↔ Unrefused before
-Continues before (r ∷ rs) n = ((n ≡ r .number) ↔ NoneAnd before (r .when)) × Continues (before ++ r ∷ []) rs n
-
-abbrev pub Exactly : List Rule → ℕ → Type 0
-Exactly rs n = Continues [] rs n
-
--- n is the number of the first rule that applies, and 0 where none does: for a table in which two rules have one number
-abbrev pub First : List Rule → ℕ → Type 0
-First [] n = n ≡ 0
-First (r ∷ rs) n = (r .when × (n ≡ r .number)) ⊎ ((¬ r .when) × First rs n)
+use Rattle.rules.specs.Rules.{Rule, rule}
+use Rattle.session.specs.Requests.{Request, exactPoint}
+use Rattle.epoch_session.specs.declared.Round.{Round}
+use Rattle.epoch_session.specs.Rounds.{earlierPoint}
+use Rattle.epoch_session.specs.Records.{heldRound, starting}
+use Rattle.epoch_steps.specs.Refusals.{firstRound, laterRound}
+use Rattle.demands.specs.Coordinates.{positionOf, velocityOf}
+use Rattle.session.specs.Coordinates.{Coordinate}
 
 -- ---- the conditions that need a word of their own
 
@@ -111,15 +80,20 @@ Even p = (m : ℕ) × (p ≡ m + m)
 
 -- ---- the tables. `PlacedPoint`: every position is at least -2^52 and below 2^52, every velocity at least -2^40 and below 2^40
 
+-- samples: all of them are looked at for 4 before any is for 5
+abbrev pub sampleTable : List Float → List Rule
+sampleTable xs =
+    rule 4 (Some NotFinite xs)
+    ∷ rule 5 (Some TooLarge xs)
+    ∷ []
+
 abbrev pub openTable : Request → List Rule
 openTable r =
     rule 1 (¬ SomePoints (r .points))
     ∷ rule 2 (¬ (length (r .floats) ≡ 3 * r .points))
     ∷ rule 3 (¬ Settings (r .tolerances) (r .limit))
-    ∷ rule 6 (¬ PlacedPoint (wholePoint (r .start)))
-    ∷ rule 4 (Some NotFinite (r .floats))
-    ∷ rule 5 (Some TooLarge (r .floats))
-    ∷ []
+    ∷ rule 6 (¬ PlacedPoint (exactPoint (r .point)))
+    ∷ sampleTable (r .floats)
 
 abbrev pub predictTable : Session → List Rule
 predictTable s =
@@ -131,11 +105,10 @@ predictTable s =
 abbrev pub correctTable : Session → Sample → List Rule
 correctTable s a =
     rule 7 (¬ (awaiting s ≡ true))
-    ∷ rule 4 (Some NotFinite (axesOf a))
-    ∷ rule 5 (Some TooLarge (axesOf a))
-    ∷ rule 6 (¬ PlacedPoint (correctedPoint s (wholeOf a)))
+    ∷ (sampleTable (axesOf a)
+    ++ rule 6 (¬ PlacedPoint (correctedPoint s (wholeOf a)))
     ∷ rule 8 ((¬ Within s (correctedPoint s (wholeOf a))) × Last s)
-    ∷ []
+    ∷ [])
 
 abbrev pub withdrawTable : Session → List Rule
 withdrawTable s = rule 7 (¬ (awaiting s ≡ true)) ∷ []
@@ -147,19 +120,17 @@ startTable r =
     ∷ rule 10 (Even (r .points) ⊎ (r .points ≡ 1))
     ∷ rule 2 (¬ (length (r .floats) ≡ 3 * r .points))
     ∷ rule 3 (¬ Settings (r .tolerances) (r .limit))
-    ∷ rule 6 (¬ PlacedPoint (wholePoint (r .start)))
-    ∷ rule 4 (Some NotFinite (r .floats))
-    ∷ rule 5 (Some TooLarge (r .floats))
-    ∷ rule 6 (¬ PlacedRound (givenRound (r .points) (wholePoint (r .start)) (r .floats)))
-    ∷ []
+    ∷ rule 6 (¬ PlacedPoint (exactPoint (r .point)))
+    ∷ (sampleTable (r .floats)
+    ++ rule 6 (¬ PlacedRound (firstRound r))
+    ∷ [])
 
 -- a later round
 abbrev pub refineTable : Session → List Float → List Rule
 refineTable s floats =
     rule 7 (¬ (starting s ≡ true))
     ∷ rule 2 (¬ (length floats ≡ 3 * s .points))
-    ∷ rule 4 (Some NotFinite floats)
-    ∷ rule 5 (Some TooLarge floats)
-    ∷ rule 6 (¬ PlacedRound (laterRound s floats))
+    ∷ (sampleTable floats
+    ++ rule 6 (¬ PlacedRound (laterRound s floats))
     ∷ rule 8 ((¬ RoundWithin s (laterRound s floats)) × Last s)
-    ∷ []
+    ∷ [])

@@ -15,12 +15,13 @@ use Rattle.steps.specs.declared.Opening.the-variants as O
 use Rattle.steps.specs.declared.Prediction.the-variants as P
 use Rattle.steps.specs.declared.Correction.the-variants as C
 use Rattle.steps.specs.declared.Withdrawal.the-variants as W
-use Rattle.steps.specs.Answers.{NotZero}
-use Rattle.starting.specs.Records.{starting}
-use Rattle.rounds.specs.declared.Outcome.the-variants as R
-use Rattle.rounds.specs.Steps.{refused}
-use Rattle.demands.specs.Coordinates.{Coordinate}
-use Rattle.demands.specs.Histories.{Request, Implementation, ours, Call, predict, correct, withdraw, refine, Event, predicting, correcting, withdrawing, refining, step, event, after, history, Act, opening, firstRound, calling, lived, entries, samplesOf, agains}
+use Rattle.rules.specs.Rules.{NotZero}
+use Rattle.epoch_session.specs.Records.{starting}
+use Rattle.epoch_steps.specs.declared.Outcome.the-variants as R
+use Rattle.epoch_steps.specs.Steps.{refused}
+use Rattle.session.specs.Coordinates.{Coordinate}
+use Rattle.session.specs.Requests.{Request}
+use Rattle.demands.specs.Histories.{Implementation, ours, Call, predict, correct, withdraw, refine, Event, predicting, correcting, withdrawing, refining, step, event, after, history, Act, opening, beginning, calling, lived, entries, samplesOf, agains}
 use Rattle.demands.specs.Refusals.{Settings}
 use Rattle.demands.specs.ClosedForm.{Origin, Begins, place, openingSamples, origin, startOrigin}
 use Rattle.demands.specs.Demands.{openNumber, startNumber, Demand1, Demand2, Formulas, Unsummed, UnsummedInTicks, SamePoint, Demand3, Counts, Leaves, Agree}
@@ -29,7 +30,7 @@ use Rattle.demands.specs.BadVersions.{refusing, predictingZero, unmoving
 -- opened alike: the same p, position, velocity and rounded opening samples; the tolerances and the limit may differ
 pub record Alike (q r : Request) : Type 0 where
   pub points : q .points ≡ r .points
-  pub start : q .start ≡ r .start
+  pub point : q .point ≡ r .point
   pub samples : (k : Coordinate) → openingSamples q k ≡ openingSamples r k
 
 -- demand 3 and the counts as they read of a session that `open` opened
@@ -116,7 +117,7 @@ pub record AnyCalls : Type 0 where
       lived I s (map calling calls ++ opening r ∷ earlier) ≡ after I (I .opens r .session) calls
   -- and so does a first round
   pub anewStart : (I : Implementation) (s : Session) (r : Request) (calls : List Call) (earlier : List Act) →
-      lived I s (map calling calls ++ firstRound r ∷ earlier) ≡ after I (I .starts r .session) calls
+      lived I s (map calling calls ++ beginning r ∷ earlier) ≡ after I (I .starts r .session) calls
   -- what was opened begins at its origin, so the demands hold of it
   pub openings : (I : Implementation) → Demand3 I → Counts I → OfOpenings I
   pub starts : (I : Implementation) → Demand3 I → Counts I → OfStarts I

@@ -4,13 +4,13 @@ use mathlib.Core.Bool.{true}
 use Prim.Native.Nat.{ℕ, _+_, _*_, _^_, _≤_, _<_}
 use native.Mathlib.Omega.{arith}
 use lib.Dec.{T, leb, leb→le}
-use lib.IntN.{ℤ, pos, natAbs, _+ℤ_, _-ℤ_}
+use lib.IntN.{ℤ, pos, _+ℤ_, _-ℤ_}
 use mir.Syntax.{w64}
 use mir.Val.{SFits}
 use Rattle.integers.specs.Tests.{joined}
-use Rattle.integers.specs.Parts.{integers, Within, sfits-within, neg-parts, +-parts, difference-parts, natAbs-parts}
+use Rattle.integers.specs.Parts.{integers, Within, sfits-within, neg-parts, +-parts, difference-parts}
 use Rattle.exact.specs.declared.Exact.{Exact}
-use Rattle.exact.specs.Numerator.{D, exactOf, numerator, wholly, between, Bounded}
+use Rattle.exact.specs.Numerator.{D, exactOf, numerator, between, Bounded}
 use Rattle.exact.specs.Laws.{numerator-parts, numerator-exactOf, part-below}
 
 pub wider : (h k : ℕ) (e : Exact) → Bounded h e → h ≤ k → Bounded k e
@@ -26,10 +26,6 @@ bounded-fits e b = omega integers
 -- a passed test of the range
 pub between-bounded : (h : ℕ) (e : Exact) → e .part < D → between h e ≡ true → Bounded h e
 between-bounded h e p t = let (l, u) = simp joined at t in omega integers
-
--- a whole number of ticks
-pub whole-bounded : (h : ℕ) (n : ℤ) → natAbs n < h → Bounded h (wholly n)
-whole-bounded h n l = omega (integers, natAbs-parts n, neg-parts (pos h))
 
 -- ---- the range of the whole part is the range of the numerator
 
@@ -53,9 +49,6 @@ module _ {h k : ℕ} {a b : Exact} (p : Bounded h a) (q : Bounded k b) where
 
 -- as a caller knows them: by a contract
 module _ (h k m : ℕ) (a b r : Exact) (p : Bounded h a) (q : Bounded k b) (l : h + k ≤ m) where
-  pub sum-bounded : r ≡ exactOf (numerator a +ℤ numerator b) → Bounded m r
-  sum-bounded e = rw e (wider (h + k) m (exactOf (numerator a +ℤ numerator b)) (sum-within p q) l)
-
   pub difference-bounded : r ≡ exactOf (numerator a -ℤ numerator b) → Bounded m r
   difference-bounded e = rw e (wider (h + k) m (exactOf (numerator a -ℤ numerator b)) (difference-within p q) l)
 

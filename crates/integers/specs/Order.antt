@@ -12,9 +12,6 @@ use Rattle.integers.specs.Ring.{negℤ-*ℤ-left}
 use Rattle.integers.specs.Parts.{posPart, negPart, one-part, natAbs-parts, integers, ≤-parts, parts-≤, difference-parts, *-parts}
 use Rattle.integers.specs.Bridge.{parts, differences}
 
-pub ≤ℤ-trans : {a b c : ℤ} → a ≤ℤ b → b ≤ℤ c → a ≤ℤ c
-≤ℤ-trans h k = omega integers
-
 module _ {a b : ℤ} where
   pub ≤ℤ-antisym : a ≤ℤ b → b ≤ℤ a → a ≡ b
   ≤ℤ-antisym h k = omega integers
@@ -46,12 +43,6 @@ module _ (a b : ℤ) where
 
   pub leZ-false : leZ a b ≡ false → b <ℤ a
   leZ-false e = omega integers
-
-  pub lt-ltZ : a <ℤ b → ltZ a b ≡ true
-  lt-ltZ h = omega integers
-
-  pub le-ltZ : b ≤ℤ a → ltZ a b ≡ false
-  le-ltZ h = omega integers
 
   pub le-leZ : a ≤ℤ b → leZ a b ≡ true
   le-leZ h = omega integers

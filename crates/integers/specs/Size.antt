@@ -20,9 +20,6 @@ module _ (a b : ℤ) where
   pub natAbs-+ℤ : natAbs (a +ℤ b) ≤ natAbs a + natAbs b
   natAbs-+ℤ = rw (parts a, parts b) (simp differences (omega arith))
 
-  pub natAbs--ℤ : natAbs (a -ℤ b) ≤ natAbs a + natAbs b
-  natAbs--ℤ = rw (parts a, parts b) (simp differences (omega arith))
-
   pub natAbs-*ℤ : natAbs (a *ℤ b) ≡ natAbs a * natAbs b
   natAbs-*ℤ = rw (natAbs-parts a, natAbs-parts b) (omega (arith, natAbs-parts (a *ℤ b), *-parts a b))
 

@@ -8,10 +8,10 @@ use axis::Tolerances;
 use drawing::Draw;
 use drawing::drawn;
 use drawing::sample_of;
+use session::WholePoint;
 use steps::Correction;
 use steps::Opening;
 use steps::ReportedPoint;
-use steps::Start;
 
 // The session with what was answered so far, the number that the next draw begins with, and the axes.
 pub struct Course {
@@ -30,8 +30,8 @@ pub struct Samples {
     pub z: Track,
 }
 
-fn start() -> Start {
-    Start {
+fn start() -> WholePoint {
+    WholePoint {
         x: 4_000_000_000_000_000,
         y: -3_000_000_000_000_000,
         z: 12_345,
@@ -104,12 +104,8 @@ pub fn begin() -> Course {
 
 // Whether the formulas held on all three axes is counted.
 fn judged(h: Host, x: bool, y: bool, z: bool) -> Host {
-    if x {
-        if y {
-            if z {
-                return h;
-            }
-        }
+    if x & y & z {
+        return h;
     }
     let session = h.session;
     let seen = calls::with_failed(h.seen);

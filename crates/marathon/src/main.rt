@@ -2,6 +2,7 @@
 // accepted point that the formulas without sums hold on what the answers carried.
 mod calls;
 mod checked;
+mod console;
 mod course;
 mod formulas;
 mod near;

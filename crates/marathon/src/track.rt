@@ -47,9 +47,7 @@ fn next_differences(old: [i64; 11], sample: i64) -> Differences {
         let difference = checked::minus(known(values[i - 1]), known(old[i - 1]));
         let value = difference.value;
         values[i] = value;
-        if !difference.good {
-            good = false;
-        }
+        good = good & difference.good;
         i += 1;
     }
     Differences { values, good }

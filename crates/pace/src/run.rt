@@ -3,10 +3,10 @@ use crate::sums::with_point;
 use axis::Tolerances;
 use drawing::Draw;
 use session::Session;
+use session::WholePoint;
 use steps::Correction;
 use steps::Opening;
 use steps::Prediction;
-use steps::Start;
 use ticks::Sample;
 ghost use Prim.Native.Nat.{_≤_};
 
@@ -18,8 +18,8 @@ pub struct Run {
     pub refused: bool,
 }
 
-fn at_rest() -> Start {
-    Start {
+fn at_rest() -> WholePoint {
+    WholePoint {
         x: 0,
         y: 0,
         z: 0,

@@ -3,20 +3,24 @@ use lib.ListN.{take}
 use Rattle.script.specs.declared.calls.Floats.{Floats}
 use Rattle.script.specs.declared.calls.OpenCall.{OpenCall}
 use Rattle.session.specs.declared.Session.{Session}
+use Rattle.session.specs.Requests.{Request, request}
 use Rattle.steps.specs.declared.AfterOpen.{AfterOpen}
 use Rattle.steps.specs.Steps.{openOf}
-use Rattle.rounds.specs.declared.AfterRound.{AfterRound}
-use Rattle.rounds.specs.Steps.{startOf, refineOf}
+use Rattle.epoch_steps.specs.declared.AfterRound.{AfterRound}
+use Rattle.epoch_steps.specs.Steps.{startOf, refineOf}
 
 -- the line's settings, and as many of its floats as it has
+abbrev pub askedBy : OpenCall → Request
+askedBy call =
+    let set = call .settings in
+    request (set .points) (set .tolerances) (set .limit) (set .point) (take (call .floats .count) (call .floats .values))
+
 abbrev pub openedBy : OpenCall → AfterOpen
-openedBy call =
-    openOf (call .settings .points) (call .settings .tolerances) (call .settings .limit) (call .settings .start) (take (call .floats .count) (call .floats .values))
+openedBy call = openOf (askedBy call)
 
 -- the same of a first round, and of a later one, which has floats alone
 abbrev pub startedBy : OpenCall → AfterRound
-startedBy call =
-    startOf (call .settings .points) (call .settings .tolerances) (call .settings .limit) (call .settings .start) (take (call .floats .count) (call .floats .values))
+startedBy call = startOf (askedBy call)
 
 abbrev pub refinedBy : Session → Floats → AfterRound
 refinedBy s floats = refineOf s (take (floats .count) (floats .values))

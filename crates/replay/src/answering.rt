@@ -1,14 +1,13 @@
 // The answer to one line of a script.
 use crate::calls;
-use rounds::RoundAnswer;
-use script::Answer;
+use epoch_steps::AfterRound;
 use script::Name;
-use script::OpenCall;
 use session::Session;
+use steps::Answer;
 ghost use Prim.Native.Nat.{_+_, _≤_};
 ghost use lib.ListN.{length};
 
-// The record after a line, and the place past what was written; a line that is no call is written as none.
+// The record after a line, and the place past its answer; a line that is no call has none.
 pub struct Answered {
     pub session: Session,
     pub end: usize,
@@ -16,7 +15,7 @@ pub struct Answered {
 }
 
 fn no_call(s: Session, at: usize) -> Answered
-    ensures { λ r. ⌜ r .end ≤ at + 5120 ⌝ }
+    ensures { λ r. ⌜ r .end ≤ at + 3355 ⌝ }
 {
     Answered {
         session: s,
@@ -25,181 +24,150 @@ fn no_call(s: Session, at: usize) -> Answered
     }
 }
 
-// An answer, and the record after it.
-fn put_both(out: &mut [u8], at: usize, name: &[u8], answer: Answer, s: Session) -> Answered
+// An answer, beside the record after it.
+fn put_answer(out: &mut [u8], at: usize, name: &[u8], answer: Answer, session: Session) -> Answered
     requires { ⌜ length (now name) ≤ 8 ⌝ }
-    requires { ⌜ at + 5120 ≤ length (now out) ⌝ }
-    ensures { λ r. ⌜ r .end ≤ at + 5120 ⌝ }
+    requires { ⌜ at + 3355 ≤ length (now out) ⌝ }
+    ensures { λ r. ⌜ r .end ≤ at + 3355 ⌝ }
 {
-    let next = script::put_answer(out, at, name, answer);
-    let end = script::put_record(out, next, s);
+    let end = script::put_answer(out, at, name, answer);
     Answered {
-        session: s,
+        session,
         end,
         call: true,
     }
 }
 
-fn put_open(out: &mut [u8], at: usize, s: Session, call: OpenCall) -> Answered
-    requires { ⌜ call .floats .count ≤ 64 ⌝ }
-    requires { ⌜ at + 5120 ≤ length (now out) ⌝ }
-    ensures { λ r. ⌜ r .end ≤ at + 5120 ⌝ }
+// The answer of a round, beside the record after it.
+fn put_round(out: &mut [u8], at: usize, name: &[u8], after: AfterRound) -> Answered
+    requires { ⌜ length (now name) ≤ 8 ⌝ }
+    requires { ⌜ at + 3355 ≤ length (now out) ⌝ }
+    ensures { λ r. ⌜ r .end ≤ at + 3355 ⌝ }
 {
-    let after = calls::open(s, call);
-    let opening = after.answer;
+    let answer = answers::round_answer(after.answer);
     let session = after.session;
-    put_both(out, at, b"open", script::of_opening(opening), session)
+    let end = script::put_round(out, at, name, answer);
+    Answered {
+        session,
+        end,
+        call: true,
+    }
 }
 
 fn answer_open(out: &mut [u8], at: usize, s: Session, line: &[u8]) -> Answered
-    requires { ⌜ at + 5120 ≤ length (now out) ⌝ }
-    ensures { λ r. ⌜ r .end ≤ at + 5120 ⌝ }
+    requires { ⌜ at + 3355 ≤ length (now out) ⌝ }
+    ensures { λ r. ⌜ r .end ≤ at + 3355 ⌝ }
 {
-    let read = script::read_open(line);
-    let floats = read.floats;
-    if floats.end != line.len() {
+    let read = script::read_open(line, 4);
+    if read.floats.end != line.len() {
         return no_call(s, at);
     }
-    if 64 < floats.count {
-        return no_call(s, at);
-    }
-    put_open(out, at, s, read)
-}
-
-// The answer of a round, and the record after it.
-fn put_round(out: &mut [u8], at: usize, name: &[u8], answer: RoundAnswer, s: Session) -> Answered
-    requires { ⌜ length (now name) ≤ 8 ⌝ }
-    requires { ⌜ at + 5120 ≤ length (now out) ⌝ }
-    ensures { λ r. ⌜ r .end ≤ at + 5120 ⌝ }
-{
-    let next = script::put_round(out, at, name, answer);
-    let end = script::put_record(out, next, s);
-    Answered {
-        session: s,
-        end,
-        call: true,
-    }
+    let after = calls::open(s, read);
+    let opening = after.answer;
+    put_answer(
+        out,
+        at,
+        b"open",
+        answers::opening_answer(opening),
+        after.session,
+    )
 }
 
 fn answer_start(out: &mut [u8], at: usize, s: Session, line: &[u8]) -> Answered
-    requires { ⌜ at + 5120 ≤ length (now out) ⌝ }
-    ensures { λ r. ⌜ r .end ≤ at + 5120 ⌝ }
+    requires { ⌜ at + 3355 ≤ length (now out) ⌝ }
+    ensures { λ r. ⌜ r .end ≤ at + 3355 ⌝ }
 {
-    let read = script::read_start(line);
-    let floats = read.floats;
-    if floats.end != line.len() {
+    let read = script::read_open(line, 5);
+    if read.floats.end != line.len() {
         return no_call(s, at);
     }
-    if 64 < floats.count {
-        return no_call(s, at);
-    }
-    let after = calls::start(s, read);
-    let answer = after.answer;
-    let session = after.session;
-    put_round(out, at, b"start", answer, session)
+    put_round(out, at, b"start", calls::start(s, read))
 }
 
 fn answer_refine(out: &mut [u8], at: usize, s: Session, line: &[u8]) -> Answered
-    requires { ⌜ at + 5120 ≤ length (now out) ⌝ }
-    ensures { λ r. ⌜ r .end ≤ at + 5120 ⌝ }
+    requires { ⌜ at + 3355 ≤ length (now out) ⌝ }
+    ensures { λ r. ⌜ r .end ≤ at + 3355 ⌝ }
 {
-    let read = script::read_refine(line);
+    let read = script::read_floats(line, 6);
     if read.end != line.len() {
         return no_call(s, at);
     }
-    if 64 < read.count {
-        return no_call(s, at);
-    }
-    let after = calls::refine(s, read);
-    let answer = after.answer;
-    let session = after.session;
-    put_round(out, at, b"refine", answer, session)
+    put_round(out, at, b"refine", calls::refine(s, read))
 }
 
 fn answer_predict(out: &mut [u8], at: usize, s: Session) -> Answered
-    requires { ⌜ at + 5120 ≤ length (now out) ⌝ }
-    ensures { λ r. ⌜ r .end ≤ at + 5120 ⌝ }
+    requires { ⌜ at + 3355 ≤ length (now out) ⌝ }
+    ensures { λ r. ⌜ r .end ≤ at + 3355 ⌝ }
 {
-    let after = calls::predict(s);
+    let after = stepper::owned::predict(s);
     let prediction = after.answer;
-    let session = after.session;
-    put_both(
+    put_answer(
         out,
         at,
         b"predict",
-        script::of_prediction(prediction),
-        session,
+        answers::prediction_answer(prediction),
+        after.session,
     )
 }
 
 fn answer_correct(out: &mut [u8], at: usize, s: Session, line: &[u8]) -> Answered
-    requires { ⌜ at + 5120 ≤ length (now out) ⌝ }
-    ensures { λ r. ⌜ r .end ≤ at + 5120 ⌝ }
+    requires { ⌜ at + 3355 ≤ length (now out) ⌝ }
+    ensures { λ r. ⌜ r .end ≤ at + 3355 ⌝ }
 {
     let read = script::read_sample(line);
     if read.end != line.len() {
         return no_call(s, at);
     }
-    let sample = read.value;
-    let after = calls::correct(s, sample);
+    let after = stepper::owned::correct(s, read.value);
     let correction = after.answer;
-    let session = after.session;
-    put_both(
+    put_answer(
         out,
         at,
         b"correct",
-        script::of_correction(correction),
-        session,
+        answers::correction_answer(correction),
+        after.session,
     )
 }
 
 fn answer_withdraw(out: &mut [u8], at: usize, s: Session) -> Answered
-    requires { ⌜ at + 5120 ≤ length (now out) ⌝ }
-    ensures { λ r. ⌜ r .end ≤ at + 5120 ⌝ }
+    requires { ⌜ at + 3355 ≤ length (now out) ⌝ }
+    ensures { λ r. ⌜ r .end ≤ at + 3355 ⌝ }
 {
-    let after = calls::withdraw(s);
+    let after = stepper::owned::withdraw(s);
     let withdrawal = after.answer;
-    let session = after.session;
-    put_both(
+    put_answer(
         out,
         at,
         b"withdraw",
-        script::of_withdrawal(withdrawal),
-        session,
+        answers::withdrawal_answer(withdrawal),
+        after.session,
     )
 }
 
-fn answer_fill(out: &mut [u8], at: usize, s: Session, line: &[u8]) -> Answered
-    requires { ⌜ at + 5120 ≤ length (now out) ⌝ }
-    ensures { λ r. ⌜ r .end ≤ at + 5120 ⌝ }
+// A record that is filled in is not answered.
+fn filled(at: usize, line: &[u8]) -> Answered
+    ensures { λ r. ⌜ r .end ≤ at + 3355 ⌝ }
 {
-    let read = script::read_fill(line);
-    if read.end != line.len() {
-        return no_call(s, at);
-    }
+    let read = script::read_session(line, 4);
     let session = read.session;
-    let end = script::put_record(out, at, session);
     Answered {
         session,
-        end,
-        call: true,
+        end: at,
+        call: read.end == line.len(),
     }
 }
 
 pub fn answer_line(out: &mut [u8], at: usize, s: Session, line: &[u8]) -> Answered
-    requires { ⌜ at + 5120 ≤ length (now out) ⌝ }
-    ensures { λ r. ⌜ r .end ≤ at + 5120 ⌝ }
+    requires { ⌜ at + 3355 ≤ length (now out) ⌝ }
+    ensures { λ r. ⌜ r .end ≤ at + 3355 ⌝ }
 {
-    if 4096 < line.len() {
-        return no_call(s, at);
-    }
     let name = script::name_of(line);
     match name {
         Name::Open => answer_open(out, at, s, line),
         Name::Predict => answer_predict(out, at, s),
         Name::Correct => answer_correct(out, at, s, line),
         Name::Withdraw => answer_withdraw(out, at, s),
-        Name::Fill => answer_fill(out, at, s, line),
+        Name::Fill => filled(at, line),
         Name::Start => answer_start(out, at, s, line),
         Name::Refine => answer_refine(out, at, s, line),
         Name::Nothing => no_call(s, at),

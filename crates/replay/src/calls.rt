@@ -1,17 +1,12 @@
-// The calls, as this program makes them: each lends the record to a call of the library.
-use rounds::AfterRound;
+// The calls of lines with floats: an opening, a first round and a later one.
+use epoch_steps::AfterRound;
 use script::Floats;
 use script::OpenCall;
 use session::Session;
-use steps::AfterCorrect;
 use steps::AfterOpen;
-use steps::AfterPredict;
-use steps::AfterWithdraw;
-use ticks::Sample;
 ghost use mathlib.Core.Path.{_≡_};
 ghost use Prim.Native.Nat.{_≤_};
 ghost use Rattle.replay.specs.Calls.{openedBy, startedBy, refinedBy};
-ghost use Rattle.steps.specs.Steps.{predictOf, correctOf, withdrawOf};
 
 pub fn open(s: Session, call: OpenCall) -> AfterOpen
     requires { ⌜ call .floats .count ≤ 64 ⌝ }
@@ -22,33 +17,15 @@ pub fn open(s: Session, call: OpenCall) -> AfterOpen
     let values = floats.values;
     let count = floats.count;
     let tolerances = settings.tolerances;
-    let start = settings.start;
+    let point = settings.point;
     stepper::owned::open(
         s,
         settings.points,
         tolerances,
         settings.limit,
-        start,
+        point,
         &values[..count],
     )
-}
-
-pub fn predict(s: Session) -> AfterPredict
-    ensures { λ r. ⌜ r ≡ predictOf s ⌝ }
-{
-    stepper::owned::predict(s)
-}
-
-pub fn correct(s: Session, sample: Sample) -> AfterCorrect
-    ensures { λ r. ⌜ r ≡ correctOf s sample ⌝ }
-{
-    stepper::owned::correct(s, sample)
-}
-
-pub fn withdraw(s: Session) -> AfterWithdraw
-    ensures { λ r. ⌜ r ≡ withdrawOf s ⌝ }
-{
-    stepper::owned::withdraw(s)
 }
 
 pub fn start(s: Session, call: OpenCall) -> AfterRound
@@ -60,7 +37,7 @@ pub fn start(s: Session, call: OpenCall) -> AfterRound
     let values = floats.values;
     let count = floats.count;
     let tolerances = settings.tolerances;
-    let epoch = settings.start;
+    let epoch = settings.point;
     stepper::owned::start(
         s,
         settings.points,

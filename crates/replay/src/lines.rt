@@ -99,11 +99,12 @@ fn take_line(out: &mut [u8], p: Progress, line: &[u8], next: usize) -> Progress
         return stop(out, room.at, s, count, next);
     }
     let session = answered.session;
+    let written = script::put_record(out, answered.end, session);
     Progress {
         session,
         count,
         used: next,
-        written: answered.end,
+        written,
         over: false,
     }
 }
@@ -145,26 +146,18 @@ fn finish(out: &mut [u8], p: Progress, got: usize, end: usize) -> Progress
     ensures { λ r. ⌜ r .written ≤ length (now (out .entry)) ⌝ }
     ensures { λ r. ⌜ r .used ≤ end ⌝ }
 {
-    if p.over {
-        return p;
-    }
     let rest = end - p.used;
-    if rest == 0 {
-        if got == 0 {
-            return over(p);
-        }
-        return p;
+    if p.over | (rest == 0) {
+        return ended(p, got == 0);
     }
-    if got == 0 {
-        return no_line(out, p);
-    }
-    if 4096 < rest {
+    if (got == 0) | (4096 < rest) {
         return no_line(out, p);
     }
     p
 }
 
-fn over(p: Progress) -> Progress
+// Whether the input is over is kept.
+fn ended(p: Progress, over: bool) -> Progress
     ensures { λ r. ⌜ r .written ≡ p .written ⌝ }
     ensures { λ r. ⌜ r .used ≡ p .used ⌝ }
 {
@@ -174,7 +167,7 @@ fn over(p: Progress) -> Progress
         count: p.count,
         used: p.used,
         written: p.written,
-        over: true,
+        over: p.over | over,
     }
 }
 

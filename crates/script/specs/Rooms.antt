@@ -24,3 +24,7 @@ then v w =
       room = omega (arith, v .room, w .room);
       long = w .long ∙ v .long;
     }
+
+-- a write within less room
+pub more : {a b : List ℕ} {i j m n : ℕ} → Within a i m b j → m ≤ n → Within a i n b j
+more w h = record { past = w .past; room = omega (arith, w .room, h); long = w .long }

@@ -1,14 +1,13 @@
 // The calls of a script, read from a line.
 use crate::floats::float_of;
-use crate::pieces::ReadSession;
-use crate::pieces::read_session;
 use crate::pieces::read_three;
 use crate::pieces::read_tolerances;
 use crate::words::bits_word;
 use crate::words::natural_word;
 use axis::Tolerances;
-use steps::Start;
+use session::WholePoint;
 use ticks::Sample;
+ghost use Prim.Native.Nat.{_≤_};
 
 pub enum Name {
     Open,
@@ -32,7 +31,7 @@ pub struct Settings {
     pub points: usize,
     pub tolerances: Tolerances,
     pub limit: u64,
-    pub start: Start,
+    pub point: WholePoint,
     pub end: usize,
 }
 
@@ -60,8 +59,11 @@ fn begins(line: &[u8], word: &[u8]) -> bool {
     true
 }
 
-// Which call a line begins with; a call that carries nothing is the whole line.
+// Which call a line begins with, in at most 4,096 bytes; a call that carries nothing is the whole line.
 pub fn name_of(line: &[u8]) -> Name {
+    if 4096 < line.len() {
+        return Name::Nothing;
+    }
     if begins(line, b"open") {
         return Name::Open;
     }
@@ -102,7 +104,7 @@ fn read_settings(line: &[u8], at: usize) -> Settings {
         points: points.value as usize,
         tolerances,
         limit: limit.value,
-        start: Start {
+        point: WholePoint {
             x: p.a,
             y: p.b,
             z: p.c,
@@ -115,7 +117,9 @@ fn read_settings(line: &[u8], at: usize) -> Settings {
 }
 
 // Floats up to the end of the line, 64 at most.
-fn read_floats(line: &[u8], at: usize) -> Floats {
+pub fn read_floats(line: &[u8], at: usize) -> Floats
+    ensures { λ r. ⌜ r .count ≤ 64 ⌝ }
+{
     let mut values = [0.0f64; 64];
     let mut count: usize = 0;
     let mut end = at;
@@ -131,21 +135,13 @@ fn read_floats(line: &[u8], at: usize) -> Floats {
     Floats { values, count, end }
 }
 
-pub fn read_open(line: &[u8]) -> OpenCall {
-    let settings = read_settings(line, 4);
+// What follows the name of an opening or of a first round, which ends at a place.
+pub fn read_open(line: &[u8], at: usize) -> OpenCall
+    ensures { λ r. ⌜ r .floats .count ≤ 64 ⌝ }
+{
+    let settings = read_settings(line, at);
     let floats = read_floats(line, settings.end);
     OpenCall { settings, floats }
-}
-
-// A first round has what an opening has.
-pub fn read_start(line: &[u8]) -> OpenCall {
-    let settings = read_settings(line, 5);
-    let floats = read_floats(line, settings.end);
-    OpenCall { settings, floats }
-}
-
-pub fn read_refine(line: &[u8]) -> Floats {
-    read_floats(line, 6)
 }
 
 pub fn read_sample(line: &[u8]) -> ReadSample {
@@ -160,8 +156,4 @@ pub fn read_sample(line: &[u8]) -> ReadSample {
         },
         end: z.end,
     }
-}
-
-pub fn read_fill(line: &[u8]) -> ReadSession {
-    read_session(line, 4)
 }

@@ -1,5 +1,4 @@
 // Answers and records as lines, written into a lent buffer at a place. Each function answers the place past what it wrote.
-use crate::answers::Answer;
 use crate::floats::bits_of;
 use axis::Axis;
 use axis::Motion;
@@ -7,6 +6,7 @@ use exact::Exact;
 use exact::Reported;
 use session::Session;
 use session::State;
+use steps::Answer;
 use steps::ReportedMotion;
 use steps::ReportedPoint;
 use text::put;
@@ -50,8 +50,7 @@ fn put_reported(out: &mut [u8], at: usize, r: Reported) -> usize
     requires { ⌜ at + 59 ≤ length (now out) ⌝ }
     ensures { λ end. ⌜ Within (now (out .entry)) at 59 (now (out .exit)) end ⌝ }
 {
-    let e = r.exact;
-    let a = put_exact(out, at, e);
+    let a = put_exact(out, at, r.exact);
     let b = put(out, a, b' ');
     put_hex(out, b, bits_of(r.report))
 }
@@ -62,34 +61,27 @@ pub fn put_motion_reported(out: &mut [u8], at: usize, m: ReportedMotion) -> usiz
     requires { ⌜ at + 118 ≤ length (now out) ⌝ }
     ensures { λ r. ⌜ Within (now (out .entry)) at 118 (now (out .exit)) r ⌝ }
 {
-    let position = m.position;
-    let velocity = m.velocity;
-    let a = put_reported(out, at, position);
-    put_reported(out, a, velocity)
+    let a = put_reported(out, at, m.position);
+    put_reported(out, a, m.velocity)
 }
 
 pub fn put_point(out: &mut [u8], at: usize, q: ReportedPoint) -> usize
     requires { ⌜ at + 354 ≤ length (now out) ⌝ }
     ensures { λ r. ⌜ Within (now (out .entry)) at 354 (now (out .exit)) r ⌝ }
 {
-    let x = q.x;
-    let y = q.y;
-    let z = q.z;
-    let a = put_motion_reported(out, at, x);
-    let b = put_motion_reported(out, a, y);
-    put_motion_reported(out, b, z)
+    let a = put_motion_reported(out, at, q.x);
+    let b = put_motion_reported(out, a, q.y);
+    put_motion_reported(out, b, q.z)
 }
 
 fn put_values(out: &mut [u8], at: usize, answer: Answer) -> usize
     requires { ⌜ at + 514 ≤ length (now out) ⌝ }
     ensures { λ r. ⌜ Within (now (out .entry)) at 514 (now (out .exit)) r ⌝ }
 {
-    let point = answer.point;
-    let change = answer.change;
     let a = put_natural(out, at, answer.number as u64);
     let b = put_natural(out, a, answer.kind as u64);
-    let c = put_point(out, b, point);
-    put_motion_reported(out, c, change)
+    let c = put_point(out, b, answer.point);
+    put_motion_reported(out, c, answer.change)
 }
 
 // The call's name, and what was answered.
@@ -109,10 +101,8 @@ fn put_motion(out: &mut [u8], at: usize, m: Motion) -> usize
     requires { ⌜ at + 84 ≤ length (now out) ⌝ }
     ensures { λ r. ⌜ Within (now (out .entry)) at 84 (now (out .exit)) r ⌝ }
 {
-    let position = m.position;
-    let velocity = m.velocity;
-    let a = put_exact(out, at, position);
-    put_exact(out, a, velocity)
+    let a = put_exact(out, at, m.position);
+    put_exact(out, a, m.velocity)
 }
 
 fn put_samples(out: &mut [u8], at: usize, row: [i64; 9]) -> usize
@@ -126,14 +116,11 @@ fn put_axis(out: &mut [u8], at: usize, a: Axis) -> usize
     requires { ⌜ at + 357 ≤ length (now out) ⌝ }
     ensures { λ r. ⌜ Within (now (out .entry)) at 357 (now (out .exit)) r ⌝ }
 {
-    let first = a.first;
-    let second = a.second;
     let samples = a.samples;
-    let estimate = a.estimate;
-    let b = put_exact(out, at, first);
-    let c = put_exact(out, b, second);
+    let b = put_exact(out, at, a.first);
+    let c = put_exact(out, b, a.second);
     let d = put_samples(out, c, samples);
-    put_motion(out, d, estimate)
+    put_motion(out, d, a.estimate)
 }
 
 fn number_of(s: State) -> u64 {
@@ -161,12 +148,9 @@ fn put_axes(out: &mut [u8], at: usize, s: Session) -> usize
     requires { ⌜ at + 1071 ≤ length (now out) ⌝ }
     ensures { λ r. ⌜ Within (now (out .entry)) at 1071 (now (out .exit)) r ⌝ }
 {
-    let x = s.x;
-    let y = s.y;
-    let z = s.z;
-    let a = put_axis(out, at, x);
-    let b = put_axis(out, a, y);
-    put_axis(out, b, z)
+    let a = put_axis(out, at, s.x);
+    let b = put_axis(out, a, s.y);
+    put_axis(out, b, s.z)
 }
 
 pub fn put_record(out: &mut [u8], at: usize, s: Session) -> usize

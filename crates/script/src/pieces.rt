@@ -115,12 +115,7 @@ fn read_axis(line: &[u8], at: usize) -> ReadAxis {
     let samples = read.samples;
     let motion = estimate.value;
     ReadAxis {
-        axis: Axis {
-            first: s1,
-            second: s2,
-            samples,
-            estimate: motion,
-        },
+        axis: axis::axis_with(s1, s2, samples, motion),
         end: estimate.end,
     }
 }

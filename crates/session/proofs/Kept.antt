@@ -1,30 +1,34 @@
 -- Every record that the calls make holds, in the state that it says; the closed one does not, and is zero.
-use mathlib.Core.Path.{_≡_, refl, sym, _∙_}
+use mathlib.Core.Path.{_≡_, refl, sym, ap, _∙_}
 use mathlib.Core.Bool.{true, false}
 use mathlib.Core.List.{List}
-use Prim.Native.Nat.{ℕ, _+_, _<_}
+use Prim.Native.Nat.{ℕ, _+_, _≤_, _<_}
 use native.Mathlib.Omega.{arith}
-use lib.IntN.{ℤ, pos}
+use lib.IntN.{ℤ, pos, natAbs}
 use lib.ListN.{replicate}
 use Rattle.exact.specs.Numerator.{exactOf, wholly}
 use Rattle.ticks.specs.declared.WholeSample.{WholeSample}
 use Rattle.ticks.specs.Samples.{WithinLimit}
-use Rattle.coefficients.specs.Formulas.{Small}
+use Rattle.coefficients.specs.Formulas.{Small, largest}
 use Rattle.axis.specs.declared.Axis.{Axis}
 use Rattle.axis.specs.declared.Tolerances.{Tolerances}
-use Rattle.axis.specs.Formulas.{motionOf, still, places, emptyAxis, advancedAxis, openedAxis}
-use Rattle.axis.specs.Estimates.{inRange}
+use Rattle.axis.specs.Formulas.{axisWith, motionOf, still, places, emptyAxis, advancedAxis, openedAxis}
+use Rattle.axis.specs.Estimates.{estimating, inRange}
+use Rattle.axis.specs.Holding.{axisHolds}
 use Rattle.axis.specs.Ready.{Placed}
-use Rattle.session.specs.declared.Point.{Point}
-use Rattle.session.specs.declared.Session.{Session}
-use Rattle.session.specs.declared.State.the-variants.{Closed}
-use Rattle.session.specs.Numbers.{pointsHold, settingsHold, mostPoints}
-use Rattle.session.specs.Moves.{nowhere, estimateOf, predictedPoint, correctedPoint, pointInRange, settledAgain, awaitingAt, acceptedAt, openedSession, closedSession}
-use Rattle.session.specs.Holding.{countsHold, holds, settled, awaiting}
-use Rattle.session.specs.Ready.{Waiting, PlacedPoint}
 use Rattle.axis.proofs.Places.{places-hold}
 use Rattle.axis.proofs.Sound.{predicted-placed, corrected-placed}
 use Rattle.axis.proofs.Kept.{still-placed, estimating-holds, advanced-holds, opened-holds}
+use Rattle.session.specs.declared.Point.{Point}
+use Rattle.session.specs.declared.Session.{Session}
+use Rattle.session.specs.declared.State.the-variants.{Closed}
+use Rattle.session.specs.Coordinates.{axisOf, motionOn, ticksOn}
+use Rattle.session.specs.Numbers.{pointsHold, settingsHold, mostPoints}
+use Rattle.session.specs.Moves.{nowhere, estimateOf, predictedPoint, correctedPoint, pointInRange, became, settledAgain, awaitingAt, acceptedAt, openedSession, closedSession}
+use Rattle.session.specs.Holding.{countsHold, holds, settled, awaiting}
+use Rattle.session.specs.Ready.{Waiting, PlacedPoint}
+use Rattle.session.proofs.Coordinates.{on-each, placed-on, corrected-on, settled-axis, awaiting-axis, accepted-axis}
+use Rattle.session.proofs.Values.{range-iff}
 use Rattle.session.proofs.Rules.{points-hold, settings-hold, axes-in-range, KeepsRules, holding, counts-are, counts-hold, settled-holds, resting, settled-by, awaiting-holds, expecting, awaiting-by}
 use Rattle.session.proofs.Present.{predicted-awaiting, estimate-awaiting}
 
@@ -57,9 +61,7 @@ settled-again s t =
     settled-by (settledAgain s)
     (record {
       counts = h .counts;
-      on-x = estimating-holds (s .points) (s .x) still (h .on-x) still-placed;
-      on-y = estimating-holds (s .points) (s .y) still (h .on-y) still-placed;
-      on-z = estimating-holds (s .points) (s .z) still (h .on-z) still-placed;
+      axes = λ k. ap (axisHolds (s .points)) (settled-axis s k) ∙ estimating-holds (s .points) (axisOf k s) still (h .axes k) still-placed;
     })
     (record { state = refl; estimate = refl; corrections = refl })
 
@@ -68,17 +70,9 @@ pub settled-same : (s : Session) → settled s ≡ true → settledAgain s ≡ s
 unfolding settledAgain estimateOf nowhere
 settled-same s t =
     let r = resting s t in
-    λ i. record {
-      state = sym (r .state) i;
-      points = s .points;
-      tolerances = s .tolerances;
-      limit = s .limit;
-      accepted = s .accepted;
-      corrections = sym (r .corrections) i;
-      x = record { first = s .x .first; second = s .x .second; samples = s .x .samples; estimate = sym (r .estimate) i .x };
-      y = record { first = s .y .first; second = s .y .second; samples = s .y .samples; estimate = sym (r .estimate) i .y };
-      z = record { first = s .z .first; second = s .z .second; samples = s .z .samples; estimate = sym (r .estimate) i .z };
-    }
+    λ i.
+    let e = sym (r .estimate) i in
+    became s (sym (r .state) i) (s .accepted) (sym (r .corrections) i) (estimating (s .x) (e .x)) (estimating (s .y) (e .y)) (estimating (s .z) (e .z))
 
 -- what a wait began with is what its end leaves
 pub settled-after : (s : Session) (n : ℕ) (q : Point) → settled s ≡ true → settledAgain (awaitingAt s n q) ≡ s
@@ -92,9 +86,7 @@ unfolding awaitingAt countsHold
 keeps-awaiting s n q h r =
     record {
       counts = h .counts;
-      on-x = estimating-holds (s .points) (s .x) (q .x) (h .on-x) (r .on-x);
-      on-y = estimating-holds (s .points) (s .y) (q .y) (h .on-y) (r .on-y);
-      on-z = estimating-holds (s .points) (s .z) (q .z) (h .on-z) (r .on-z);
+      axes = λ k. ap (axisHolds (s .points)) (awaiting-axis s n q k) ∙ estimating-holds (s .points) (axisOf k s) (motionOn k q) (h .axes k) (placed-on q r k);
     }
 
 pub predicted-holds : (s : Session) → settled s ≡ true → s .accepted < mostPoints → pointInRange (predictedPoint s) ≡ true → awaiting (awaitingAt s 0 (predictedPoint s)) ≡ true
@@ -119,13 +111,14 @@ unfolding acceptedAt correctedPoint estimateOf nowhere advancedAxis
 accepted-holds s w t l r =
     let h = holding s (awaiting-holds s t) .rules in
     let c = counts-are s (h .counts) in
-    let (x, (y, z)) = axes-in-range (correctedPoint s w) .0 r in
+    let small = on-each (λ k. natAbs (ticksOn k w) ≤ largest) (l .on-x) (l .on-y) (l .on-z) in
     settled-by (acceptedAt s w)
     (record {
       counts = counts-hold (acceptedAt s w) (record { points = c .points; tolerances = c .tolerances; limit = c .limit; accepted = omega (arith, expecting s t .accepted) });
-      on-x = advanced-holds (s .points) (c .points .1) (s .x) (w .x) (h .on-x) (l .on-x) x;
-      on-y = advanced-holds (s .points) (c .points .1) (s .y) (w .y) (h .on-y) (l .on-y) y;
-      on-z = advanced-holds (s .points) (c .points .1) (s .z) (w .z) (h .on-z) (l .on-z) z;
+      axes = λ k.
+          ap (axisHolds (s .points)) (accepted-axis s w k)
+          ∙ advanced-holds (s .points) (c .points .1) (axisOf k s) (ticksOn k w) (h .axes k) (small k)
+          (sym (ap inRange (corrected-on s w k)) ∙ range-iff (correctedPoint s w) .0 r k);
     })
     (record { state = refl; estimate = refl; corrections = refl })
 
@@ -140,9 +133,10 @@ opened-session-holds p tolerances limit q xs ys zs a b r sx sy sz =
     settled-by s
     (record {
       counts = counts-hold s (record { points = points-hold p .0 a; tolerances = t; limit = l; accepted = omega arith });
-      on-x = opened-holds p (q .x) (places p xs) (r .on-x) (places-hold p xs sx);
-      on-y = opened-holds p (q .y) (places p ys) (r .on-y) (places-hold p ys sy);
-      on-z = opened-holds p (q .z) (places p zs) (r .on-z) (places-hold p zs sz);
+      axes = on-each _
+          (opened-holds p (q .x) (places p xs) (r .on-x) (places-hold p xs sx))
+          (opened-holds p (q .y) (places p ys) (r .on-y) (places-hold p ys sy))
+          (opened-holds p (q .z) (places p zs) (r .on-z) (places-hold p zs sz));
     })
     (record { state = refl; estimate = refl; corrections = refl })
 
@@ -153,14 +147,18 @@ unfolding holds countsHold pointsHold closedSession
 closed-fails = refl
 
 abbrev zeros : Axis
-zeros =
-    record {
-      first = wholly (pos 0);
-      second = wholly (pos 0);
-      samples = replicate 9 (pos 0);
-      estimate = record { position = wholly (pos 0); velocity = wholly (pos 0) };
-    }
+zeros = axisWith (wholly (pos 0)) (wholly (pos 0)) (replicate 9 (pos 0)) (record { position = wholly (pos 0); velocity = wholly (pos 0) })
 
-pub closed-is-zero : closedSession ≡ record { state = Closed; points = 0; tolerances = record { position = 0; velocity = 0 }; limit = 0; accepted = 0; corrections = 0; x = zeros; y = zeros; z = zeros }
+pub closed-is-zero : closedSession ≡ record {
+  state = Closed;
+  points = 0;
+  tolerances = record { position = 0; velocity = 0 };
+  limit = 0;
+  accepted = 0;
+  corrections = 0;
+  x = zeros;
+  y = zeros;
+  z = zeros;
+}
 unfolding closedSession emptyAxis still motionOf exactOf
 closed-is-zero = refl

@@ -9,18 +9,20 @@ use lib.Dec.{eqb}
 use Rattle.integers.specs.Tests.{_and_, agree, joined}
 use Rattle.axis.specs.declared.Tolerances.{Tolerances}
 use Rattle.axis.specs.Estimates.{inRange}
-use Rattle.axis.specs.Ready.{Tolerable}
-use Rattle.axis.specs.Holding.{axisHolds}
+use Rattle.axis.specs.Ready.{Ready, Tolerable}
+use Rattle.axis.specs.Holding.{remaindersHold, samplesSmall, emptyZero, axisHolds}
 use Rattle.session.specs.declared.Point.{Point}
 use Rattle.session.specs.declared.Session.{Session}
 use Rattle.session.specs.declared.State.{State}
 use Rattle.session.specs.declared.State.the-variants.{Closed, Settled, Awaiting, Starting}
+use Rattle.session.specs.Coordinates.{Coordinate, onX, onY, onZ, axisOf}
 use Rattle.session.specs.Numbers.{pointsHold, settingsHold, mostPoints}
 use Rattle.session.specs.Moves.{nowhere, presentPoint, estimateOf, predictedPoint, pointInRange}
 use Rattle.session.specs.Holding.{countsHold, samePoint, settledHolds, estimateBegins, awaitingHolds, stateHolds, holds, isSettled, isAwaiting, settled, awaiting}
 use Rattle.session.specs.Ready.{ReadySession, Waiting}
-use Rattle.axis.proofs.Sound.{holds-by-rules, axis-ready, estimate-placed}
-use Rattle.axis.proofs.Agreement.{same-motion, motions-same}
+use Rattle.axis.proofs.Sound.{KeepsAxis, holds-by-rules, axis-ready, estimate-placed}
+use Rattle.session.proofs.Coordinates.{on-each, coordinates-iff, present-on, estimate-on}
+use Rattle.session.proofs.Values.{range-by-axes, range-iff, same-point-true, same-point}
 
 -- ---- numbers
 
@@ -43,67 +45,53 @@ settings-hold t limit = (
 -- ---- points
 
 pub axes-in-range : (q : Point) → (pointInRange q ≡ true) ↔ ((inRange (q .x) ≡ true) × ((inRange (q .y) ≡ true) × (inRange (q .z) ≡ true)))
-unfolding pointInRange
-axes-in-range q = ((λ h. simp joined at h), (λ h. simp joined h))
-
-pub same-point-true : (q r : Point) → samePoint q r ≡ true → q ≡ r
-unfolding samePoint
-same-point-true q r h =
-    let (x, (y, z)) = simp joined at h in
-    λ i. record { x = motions-same (q .x) (r .x) x i; y = motions-same (q .y) (r .y) y i; z = motions-same (q .z) (r .z) z i }
-
-pub same-point : (q r : Point) → q ≡ r → samePoint q r ≡ true
-unfolding samePoint
-same-point q r e = ap (λ p. samePoint p r) e ∙ simp joined (same-motion (r .x), (same-motion (r .y), same-motion (r .z)))
+axes-in-range q = rw (range-by-axes q) ((λ h. simp joined at h), (λ h. simp joined h))
 
 -- ---- every rule that a record that holds keeps
 
 -- those of every state
 pub record KeepsRules (s : Session) : Type 0 where
   pub counts : countsHold s ≡ true
-  pub on-x : axisHolds (s .points) (s .x) ≡ true
-  pub on-y : axisHolds (s .points) (s .y) ≡ true
-  pub on-z : axisHolds (s .points) (s .z) ≡ true
+  pub axes : (k : Coordinate) → axisHolds (s .points) (axisOf k s) ≡ true
 
 pub record Holding (s : Session) : Type 0 where
   pub rules : KeepsRules s
   pub state : stateHolds (s .state) s ≡ true
 
 pub holding : (s : Session) → holds s ≡ true → Holding s
-unfolding holds pointInRange presentPoint estimateOf
+unfolding holds
 holding s h =
-    let (c, ((xs, (ys, zs)), ((xr, (yr, zr)), ((xp, (yp, zp)), ((xe, (ye, ze)), ((xz, (yz, zz)), k)))))) = simp joined at h in
-    let x = holds-by-rules (s .points) (s .x) .1 (record { samples = xs; remainders = xr; present-point = xp; estimate = xe; empty-places = xz }) in
-    let y = holds-by-rules (s .points) (s .y) .1 (record { samples = ys; remainders = yr; present-point = yp; estimate = ye; empty-places = yz }) in
-    let z = holds-by-rules (s .points) (s .z) .1 (record { samples = zs; remainders = zr; present-point = zp; estimate = ze; empty-places = zz }) in
-    record { rules = record { counts = c; on-x = x; on-y = y; on-z = z }; state = k }
+    let (c, ((xs, (ys, zs)), ((xr, (yr, zr)), (p, (e, ((xz, (yz, zz)), st)))))) = simp joined at h in
+    let axes : (k : Coordinate) → KeepsAxis (s .points) (axisOf k s) = λ k. record {
+      samples = on-each (λ k. samplesSmall (axisOf k s .samples) ≡ true) xs ys zs k;
+      remainders = on-each (λ k. remaindersHold (axisOf k s) ≡ true) xr yr zr k;
+      present-point = sym (ap inRange (present-on s k)) ∙ range-iff (presentPoint s) .0 p k;
+      estimate = sym (ap inRange (estimate-on s k)) ∙ range-iff (estimateOf s) .0 e k;
+      empty-places = on-each (λ k. emptyZero (s .points) (axisOf k s .samples) ≡ true) xz yz zz k;
+    } in
+    record { rules = record { counts = c; axes = λ k. holds-by-rules (s .points) (axisOf k s) .1 (axes k) }; state = st }
 
 also : {a b : Bool} → a ≡ true → b ≡ true → (a and b) ≡ true
 also p q = simp joined (p, q)
 
-on-axes : {a b c : Bool} → a ≡ true → b ≡ true → c ≡ true → (a and b and c) ≡ true
-on-axes x y z = also x (also y z)
-
 pub holds-by : (s : Session) → Holding s → holds s ≡ true
-unfolding holds pointInRange presentPoint estimateOf
+unfolding holds
 holds-by s h =
-    let x = holds-by-rules (s .points) (s .x) .0 (h .rules .on-x) in
-    let y = holds-by-rules (s .points) (s .y) .0 (h .rules .on-y) in
-    let z = holds-by-rules (s .points) (s .z) .0 (h .rules .on-z) in
+    let rule : (k : Coordinate) → KeepsAxis (s .points) (axisOf k s) = λ k. holds-by-rules (s .points) (axisOf k s) .0 (h .rules .axes k) in
     also (h .rules .counts)
-    (also (on-axes (x .samples) (y .samples) (z .samples))
-    (also (on-axes (x .remainders) (y .remainders) (z .remainders))
-    (also (on-axes (x .present-point) (y .present-point) (z .present-point))
-    (also (on-axes (x .estimate) (y .estimate) (z .estimate))
-    (also (on-axes (x .empty-places) (y .empty-places) (z .empty-places))
+    (also (coordinates-iff (λ k. samplesSmall (axisOf k s .samples)) .1 (λ k. rule k .samples))
+    (also (coordinates-iff (λ k. remaindersHold (axisOf k s)) .1 (λ k. rule k .remainders))
+    (also (range-iff (presentPoint s) .1 (λ k. ap inRange (present-on s k) ∙ rule k .present-point))
+    (also (range-iff (estimateOf s) .1 (λ k. ap inRange (estimate-on s k) ∙ rule k .estimate))
+    (also (coordinates-iff (λ k. emptyZero (s .points) (axisOf k s .samples)) .1 (λ k. rule k .empty-places))
     (h .state))))))
 
 -- the paper's rules, one for all axes after another, are the code's tests, one axis after another
 pub as-tested : (s : Session) → holds s ≡ (countsHold s and axisHolds (s .points) (s .x) and axisHolds (s .points) (s .y) and axisHolds (s .points) (s .z) and stateHolds (s .state) s)
 as-tested s =
     agree (holds s) (countsHold s and axisHolds (s .points) (s .x) and axisHolds (s .points) (s .y) and axisHolds (s .points) (s .z) and stateHolds (s .state) s)
-    (λ t. let h = holding s t in simp joined (h .rules .counts, (h .rules .on-x, (h .rules .on-y, (h .rules .on-z, h .state)))))
-    (λ t. let (c, (x, (y, (z, k)))) = simp joined at t in holds-by s (record { rules = record { counts = c; on-x = x; on-y = y; on-z = z }; state = k }))
+    (λ t. let h = holding s t in simp joined (h .rules .counts, (h .rules .axes onX, (h .rules .axes onY, (h .rules .axes onZ, h .state)))))
+    (λ t. let (c, (x, (y, (z, k)))) = simp joined at t in holds-by s (record { rules = record { counts = c; axes = on-each _ x y z }; state = k }))
 
 -- ---- the counts
 
@@ -130,7 +118,8 @@ counts-hold s c =
 pub ready : (s : Session) → KeepsRules s → ReadySession s
 ready s h =
     let some = counts-are s (h .counts) .points in
-    record { on-x = axis-ready (s .points) (s .x) (h .on-x) some; on-y = axis-ready (s .points) (s .y) (h .on-y) some; on-z = axis-ready (s .points) (s .z) (h .on-z) some }
+    let axis : (k : Coordinate) → Ready (s .points) (axisOf k s) = λ k. axis-ready (s .points) (axisOf k s) (h .axes k) some in
+    record { on-x = axis onX; on-y = axis onY; on-z = axis onZ }
 
 -- ---- a settled record
 
@@ -218,9 +207,9 @@ waiting s t =
     let r = expecting s t in
     record {
       ready = ready s h;
-      on-x = estimate-placed (s .points) (s .x) (h .on-x);
-      on-y = estimate-placed (s .points) (s .y) (h .on-y);
-      on-z = estimate-placed (s .points) (s .z) (h .on-z);
+      on-x = estimate-placed (s .points) (s .x) (h .axes onX);
+      on-y = estimate-placed (s .points) (s .y) (h .axes onY);
+      on-z = estimate-placed (s .points) (s .z) (h .axes onZ);
       tolerances = c .tolerances;
       accepted = r .accepted;
       corrections = omega (arith, c .limit .1, r .corrections);

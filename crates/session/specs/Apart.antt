@@ -1,15 +1,15 @@
 -- How far two points are apart. Definitions only.
-use Prim.Native.Nat.{ℕ, max}
+use Prim.Native.Nat.{ℕ}
 use mathlib.Core.Bool.{Bool}
-use Rattle.integers.specs.Tests.{_and_}
 use Rattle.axis.specs.declared.Tolerances.{Tolerances}
-use Rattle.axis.specs.Agreement.{Kind, changeOf, agreesOn}
+use Rattle.axis.specs.Kinds.{Kind}
 use Rattle.session.specs.declared.Point.{Point}
+use Rattle.session.specs.Values.{valuesOf, largestOf, everyValue, withinAt, sizeAt}
 
--- on each axis the position and the velocity moved by at most their own tolerance: all six changes
+-- each of the six values moved by at most the tolerance of its kind
 unfoldable pub pointsAgree : Tolerances → Point → Point → Bool
-pointsAgree tolerances q before = agreesOn tolerances (q .x) (before .x) and agreesOn tolerances (q .y) (before .y) and agreesOn tolerances (q .z) (before .z)
+pointsAgree tolerances q before = everyValue (withinAt tolerances q before)
 
--- of each kind the largest change of an axis
+-- of each kind the size of the largest change
 unfoldable pub pointChange : Point → Point → Kind → ℕ
-pointChange q before kind = max (changeOf (q .x) (before .x) kind) (max (changeOf (q .y) (before .y) kind) (changeOf (q .z) (before .z) kind))
+pointChange q before kind = largestOf (sizeAt q before) (valuesOf kind)

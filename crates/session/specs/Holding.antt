@@ -3,25 +3,26 @@ use mathlib.Core.Bool.{Bool, true, false, not, _||_}
 use lib.Dec.{eqb, leb, ltb}
 use Rattle.integers.specs.Tests.{_and_}
 use Rattle.axis.specs.declared.Axis.{Axis}
-use Rattle.axis.specs.Estimates.{sameMotion}
 use Rattle.axis.specs.Holding.{remaindersHold, samplesSmall, emptyZero}
 use Rattle.session.specs.declared.Point.{Point}
 use Rattle.session.specs.declared.Session.{Session}
 use Rattle.session.specs.declared.State.{State}
 use Rattle.session.specs.declared.State.the-variants.{Closed, Settled, Awaiting, Starting}
+use Rattle.session.specs.Coordinates.{axisOf, everyCoordinate}
+use Rattle.session.specs.Values.{everyValue, sameAt}
 use Rattle.session.specs.Numbers.{pointsHold, settingsHold, mostPoints}
 use Rattle.session.specs.Moves.{nowhere, presentPoint, estimateOf, predictedPoint, pointInRange}
 
 abbrev pub everyAxis : Session → (Axis → Bool) → Bool
-everyAxis s test = test (s .x) and test (s .y) and test (s .z)
+everyAxis s test = everyCoordinate (λ k. test (axisOf k s))
 
 -- p, the tolerances, the limit and the accepted points keep to their numbers
 unfoldable pub countsHold : Session → Bool
 countsHold s = pointsHold (s .points) and settingsHold (s .tolerances) (s .limit) and leb (s .accepted) mostPoints
 
--- all six values are the same
+-- each of the six values is the same
 unfoldable pub samePoint : Point → Point → Bool
-samePoint q r = sameMotion (q .x) (r .x) and sameMotion (q .y) (r .y) and sameMotion (q .z) (r .z)
+samePoint q r = everyValue (sameAt q r)
 
 -- a settled record has no estimate and no count
 unfoldable pub settledHolds : Session → Bool

@@ -3,16 +3,16 @@ use Prim.Native.Nat.{ℕ, _+_}
 use mathlib.Core.Bool.{Bool}
 use mathlib.Core.List.{List}
 use lib.IntN.{ℤ}
-use Rattle.integers.specs.Tests.{_and_}
 use Rattle.ticks.specs.declared.WholeSample.{WholeSample}
 use Rattle.axis.specs.declared.Axis.{Axis}
 use Rattle.axis.specs.declared.Tolerances.{Tolerances}
 use Rattle.axis.specs.Formulas.{still, presentMotion, predictedMotion, correctedMotion, advancedAxis, openedAxis, emptyAxis}
-use Rattle.axis.specs.Estimates.{estimating, inRange}
+use Rattle.axis.specs.Estimates.{estimating}
 use Rattle.session.specs.declared.Point.{Point}
 use Rattle.session.specs.declared.Session.{Session}
 use Rattle.session.specs.declared.State.{State}
 use Rattle.session.specs.declared.State.the-variants.{Closed, Settled, Awaiting}
+use Rattle.session.specs.Values.{everyValue, inRangeAt}
 
 -- ---- points
 
@@ -50,8 +50,9 @@ correctedPoint s w =
       z = correctedMotion (s .points) (s .z) (w .z);
     }
 
+-- each of the six values is in the range of its kind
 unfoldable pub pointInRange : Point → Bool
-pointInRange q = inRange (q .x) and inRange (q .y) and inRange (q .z)
+pointInRange q = everyValue (inRangeAt q)
 
 -- ---- records
 

@@ -7,6 +7,7 @@ mod holding;
 mod moves;
 mod numbers;
 mod points;
+mod whole;
 
 pub use holding::is_awaiting;
 pub use holding::is_settled;
@@ -24,6 +25,7 @@ pub use numbers::settings_hold;
 pub use points::point_change;
 pub use points::point_in_range;
 pub use points::points_agree;
+pub use whole::exact_point;
 
 pub enum State {
     Closed,
@@ -49,4 +51,14 @@ pub struct Point {
     pub x: Motion,
     pub y: Motion,
     pub z: Motion,
+}
+
+// A position and a velocity on each axis, in whole ticks: what a host gives.
+pub struct WholePoint {
+    pub x: i64,
+    pub y: i64,
+    pub z: i64,
+    pub vx: i64,
+    pub vy: i64,
+    pub vz: i64,
 }

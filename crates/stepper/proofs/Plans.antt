@@ -18,8 +18,8 @@ use Rattle.axis.proofs.Tolerances
 use Rattle.axis.proofs.Tolerances.Laws as TolerancesLaws
 use Rattle.session.proofs.Session
 use Rattle.session.proofs.Session.Laws as SessionLaws
-use Rattle.steps.proofs.Start
-use Rattle.steps.proofs.Start.Laws as StartLaws
+use Rattle.session.proofs.WholePoint
+use Rattle.session.proofs.WholePoint.Laws as WholePointLaws
 use Rattle.steps.proofs.Opening
 use Rattle.steps.proofs.Opening.Laws as OpeningLaws
 use Rattle.steps.proofs.AfterOpen
@@ -32,18 +32,19 @@ use Rattle.steps.proofs.AfterCorrect
 use Rattle.steps.proofs.Withdrawal
 use Rattle.steps.proofs.Withdrawal.Laws as WithdrawalLaws
 use Rattle.steps.proofs.AfterWithdraw
-use Rattle.rounds.specs.Answers.{roundAnswer}
-use Rattle.rounds.specs.Steps.{startOf, startAnswer, refineOf, refineAnswer}
-use Rattle.rounds.proofs.RoundAnswer
-use Rattle.rounds.proofs.RoundAnswer.Laws as RoundAnswerLaws
-use Rattle.rounds.proofs.AfterRound
+use Rattle.epoch_steps.specs.Answers.{roundAnswer}
+use Rattle.session.specs.Requests.{request}
+use Rattle.epoch_steps.specs.Steps.{startOf, startAnswer, refineOf, refineAnswer}
+use Rattle.epoch_steps.proofs.RoundAnswer
+use Rattle.epoch_steps.proofs.RoundAnswer.Laws as RoundAnswerLaws
+use Rattle.epoch_steps.proofs.AfterRound
 
 -- ---- the record, and the arguments
 abbrev session : Struct
 session = record { type = Session.the-type; facts = record { laws = SessionLaws.the-field-laws; plain = SessionLaws.the-field-plain; copy = SessionLaws.the-field-copy } }
 
-abbrev start : Struct
-start = record { type = Start.the-type; facts = record { laws = StartLaws.the-field-laws; plain = StartLaws.the-field-plain; copy = StartLaws.the-field-copy } }
+abbrev point : Struct
+point = record { type = WholePoint.the-type; facts = record { laws = WholePointLaws.the-field-laws; plain = WholePointLaws.the-field-plain; copy = WholePointLaws.the-field-copy } }
 
 abbrev tolerances : Struct
 tolerances =
@@ -94,10 +95,10 @@ opens = record {
   answer = opening;
   outcome = opened;
   lifetimes = 1;
-  args = count ∷ struct tolerances ∷ count ∷ struct start ∷ slice 0 tt f64 ∷ [];
+  args = count ∷ struct tolerances ∷ count ∷ struct point ∷ slice 0 tt f64 ∷ [];
   takes = no-record;
-  rule = λ κs a. openOf (a .0) (a .1 .0) (a .1 .1 .0) (a .1 .1 .1 .0) (a .1 .1 .1 .1 .0 .now);
-  says = λ κs a r. openingAnswer r ≡ openAnswer (a .0) (a .1 .0) (a .1 .1 .0) (a .1 .1 .1 .0) (a .1 .1 .1 .1 .0 .now);
+  rule = λ κs a. openOf (request (a .0) (a .1 .0) (a .1 .1 .0) (a .1 .1 .1 .0) (a .1 .1 .1 .1 .0 .now));
+  says = λ κs a r. openingAnswer r ≡ openAnswer (request (a .0) (a .1 .0) (a .1 .1 .0) (a .1 .1 .1 .0) (a .1 .1 .1 .1 .0 .now));
 }
 
 abbrev pub predicts : Plan
@@ -142,10 +143,10 @@ starts = record {
   answer = round;
   outcome = rounded;
   lifetimes = 1;
-  args = count ∷ struct tolerances ∷ count ∷ struct start ∷ slice 0 tt f64 ∷ [];
+  args = count ∷ struct tolerances ∷ count ∷ struct point ∷ slice 0 tt f64 ∷ [];
   takes = no-record;
-  rule = λ κs a. startOf (a .0) (a .1 .0) (a .1 .1 .0) (a .1 .1 .1 .0) (a .1 .1 .1 .1 .0 .now);
-  says = λ κs a r. roundAnswer r ≡ startAnswer (a .0) (a .1 .0) (a .1 .1 .0) (a .1 .1 .1 .0) (a .1 .1 .1 .1 .0 .now);
+  rule = λ κs a. startOf (request (a .0) (a .1 .0) (a .1 .1 .0) (a .1 .1 .1 .0) (a .1 .1 .1 .1 .0 .now));
+  says = λ κs a r. roundAnswer r ≡ startAnswer (request (a .0) (a .1 .0) (a .1 .1 .0) (a .1 .1 .1 .0) (a .1 .1 .1 .1 .0 .now));
 }
 
 abbrev pub refines : Plan

@@ -1,16 +1,17 @@
 // The calls of the library: each is lent the session's record, takes the step by value, and leaves the record that the step gives.
 use axis::Tolerances;
-use rounds::RoundAnswer;
+use epoch_steps::RoundAnswer;
 use session::Session;
+use session::WholePoint;
 use steps::Correction;
 use steps::Opening;
 use steps::Prediction;
-use steps::Start;
 use steps::Withdrawal;
 use ticks::Sample;
 ghost use mathlib.Core.Path.{_≡_};
-ghost use Rattle.rounds.specs.Answers.{roundAnswer};
-ghost use Rattle.rounds.specs.Steps.{startOf, startAnswer, refineOf, refineAnswer};
+ghost use Rattle.epoch_steps.specs.Answers.{roundAnswer};
+ghost use Rattle.epoch_steps.specs.Steps.{startOf, startAnswer, refineOf, refineAnswer};
+ghost use Rattle.session.specs.Requests.{request};
 ghost use Rattle.steps.specs.Answers.{openingAnswer, predictionAnswer, correctionAnswer, withdrawalAnswer};
 ghost use Rattle.steps.specs.Steps.{openOf, openAnswer, predictOf, predictAnswer, correctOf, correctAnswer, withdrawOf, withdrawAnswer};
 
@@ -21,14 +22,14 @@ pub fn open(
     points: usize,
     tolerances: Tolerances,
     limit: u64,
-    start: Start,
+    point: WholePoint,
     samples: &[f64],
 ) -> Opening
-    ensures { λ r. ⌜ (now (s .exit) ≡ openOf points tolerances limit start (now (samples .entry)) .session)
-        × (r ≡ openOf points tolerances limit start (now (samples .entry)) .answer)
-        × (openingAnswer r ≡ openAnswer points tolerances limit start (now (samples .entry))) ⌝ }
+    ensures { λ r. ⌜ (now (s .exit) ≡ openOf (request points tolerances limit point (now (samples .entry))) .session)
+        × (r ≡ openOf (request points tolerances limit point (now (samples .entry))) .answer)
+        × (openingAnswer r ≡ openAnswer (request points tolerances limit point (now (samples .entry)))) ⌝ }
 {
-    let r = steps::open_step(points, tolerances, limit, start, samples);
+    let r = steps::open_step(points, tolerances, limit, point, samples);
     *s = r.session;
     r.answer
 }
@@ -69,14 +70,14 @@ pub fn start(
     points: usize,
     tolerances: Tolerances,
     limit: u64,
-    epoch: Start,
+    epoch: WholePoint,
     samples: &[f64],
 ) -> RoundAnswer
-    ensures { λ r. ⌜ (now (s .exit) ≡ startOf points tolerances limit epoch (now (samples .entry)) .session)
-        × (r ≡ startOf points tolerances limit epoch (now (samples .entry)) .answer)
-        × (roundAnswer r ≡ startAnswer points tolerances limit epoch (now (samples .entry))) ⌝ }
+    ensures { λ r. ⌜ (now (s .exit) ≡ startOf (request points tolerances limit epoch (now (samples .entry))) .session)
+        × (r ≡ startOf (request points tolerances limit epoch (now (samples .entry))) .answer)
+        × (roundAnswer r ≡ startAnswer (request points tolerances limit epoch (now (samples .entry)))) ⌝ }
 {
-    let r = rounds::start_step(points, tolerances, limit, epoch, samples);
+    let r = epoch_steps::start_step(points, tolerances, limit, epoch, samples);
     *s = r.session;
     r.answer
 }
@@ -87,7 +88,7 @@ pub fn refine(s: &mut Session, samples: &[f64]) -> RoundAnswer
         × (r ≡ refineOf (now (s .entry)) (now (samples .entry)) .answer)
         × (roundAnswer r ≡ refineAnswer (now (s .entry)) (now (samples .entry))) ⌝ }
 {
-    let r = rounds::refine_step(*s, samples);
+    let r = epoch_steps::refine_step(*s, samples);
     *s = r.session;
     r.answer
 }

@@ -1,15 +1,16 @@
 // The same calls for whoever owns the record: each lends its own copy to a call, and returns what the call leaves beside its answer.
 use axis::Tolerances;
-use rounds::AfterRound;
+use epoch_steps::AfterRound;
 use session::Session;
+use session::WholePoint;
 use steps::AfterCorrect;
 use steps::AfterOpen;
 use steps::AfterPredict;
 use steps::AfterWithdraw;
-use steps::Start;
 use ticks::Sample;
 ghost use mathlib.Core.Path.{_≡_};
-ghost use Rattle.rounds.specs.Steps.{startOf, refineOf};
+ghost use Rattle.epoch_steps.specs.Steps.{startOf, refineOf};
+ghost use Rattle.session.specs.Requests.{request};
 ghost use Rattle.steps.specs.Steps.{openOf, predictOf, correctOf, withdrawOf};
 
 pub fn open(
@@ -17,13 +18,13 @@ pub fn open(
     points: usize,
     tolerances: Tolerances,
     limit: u64,
-    start: Start,
+    point: WholePoint,
     samples: &[f64],
 ) -> AfterOpen
-    ensures { λ r. ⌜ r ≡ openOf points tolerances limit start (now (samples .entry)) ⌝ }
+    ensures { λ r. ⌜ r ≡ openOf (request points tolerances limit point (now (samples .entry))) ⌝ }
 {
     let mut session = s;
-    let answer = crate::open(&mut session, points, tolerances, limit, start, samples);
+    let answer = crate::open(&mut session, points, tolerances, limit, point, samples);
     AfterOpen { session, answer }
 }
 
@@ -56,10 +57,10 @@ pub fn start(
     points: usize,
     tolerances: Tolerances,
     limit: u64,
-    epoch: Start,
+    epoch: WholePoint,
     samples: &[f64],
 ) -> AfterRound
-    ensures { λ r. ⌜ r ≡ startOf points tolerances limit epoch (now (samples .entry)) ⌝ }
+    ensures { λ r. ⌜ r ≡ startOf (request points tolerances limit epoch (now (samples .entry))) ⌝ }
 {
     let mut session = s;
     let answer = crate::start(&mut session, points, tolerances, limit, epoch, samples);

@@ -1,22 +1,20 @@
 -- The answers: their shape is one to one, and what each call answers in that shape.
 use mathlib.Core.Path.{_≡_, refl, sym, ap}
 use mathlib.Core.Bool.{Bool, true, false, cond}
-use mathlib.Core.List.{List}
 use Prim.Native.Nat.{ℕ, zero, suc}
 use native.Mathlib.Nat.{suc-ne-zero}
 use native.Mathlib.Omega.{arith}
 use lib.IntN.{pos}
-use lib.Ieee.{Float, fin, add, div, ofInt}
+use lib.Ieee.{fin, add, div, ofInt}
 use Rattle.exact.specs.declared.Reported.{Reported}
 use Rattle.exact.specs.Numerator.{exactOf, wholly}
 use Rattle.ticks.specs.declared.Sample.{Sample}
 use Rattle.ticks.specs.Samples.{wholeOf}
 use Rattle.axis.specs.Formulas.{motionOf, still}
-use Rattle.axis.specs.declared.Tolerances.{Tolerances}
 use Rattle.session.specs.declared.Point.{Point}
 use Rattle.session.specs.declared.Session.{Session}
-use Rattle.session.specs.Moves.{nowhere, predictedPoint, correctedPoint}
-use Rattle.steps.specs.declared.Start.{Start}
+use Rattle.session.specs.Moves.{nowhere, correctedPoint}
+use Rattle.session.specs.Requests.{Request}
 use Rattle.steps.specs.declared.ReportedMotion.{ReportedMotion}
 use Rattle.steps.specs.declared.Opening.{Opening}
 use Rattle.steps.specs.declared.Prediction.{Prediction}
@@ -80,20 +78,20 @@ no-change-is-zero = refl
 
 -- ---- what each call answers
 
-module _ (p : ℕ) (tolerances : Tolerances) (limit : ℕ) (start : Start) (floats : List Float) where
-  pub open-answers : openingAnswer (openOf p tolerances limit start floats .answer) ≡ openAnswer p tolerances limit start floats
+module _ (r : Request) where
+  pub open-answers : openingAnswer (openOf r .answer) ≡ openAnswer r
   unfolding openOf
-  open-answers = go (openRefusal p tolerances limit start floats)
+  open-answers = go (openRefusal r)
     where
-      go : (n : ℕ) → openingAnswer (openBy n p tolerances limit start floats .answer) ≡ answer n 0 noPoint noChange
+      go : (n : ℕ) → openingAnswer (openBy n r .answer) ≡ answer n 0 noPoint noChange
       go zero = refl
       go (suc n) = refl
 
-  pub open-numbered : NumberedOpening (openOf p tolerances limit start floats .answer)
+  pub open-numbered : NumberedOpening (openOf r .answer)
   unfolding openOf
-  open-numbered = go (openRefusal p tolerances limit start floats)
+  open-numbered = go (openRefusal r)
     where
-      go : (n : ℕ) → NumberedOpening (openBy n p tolerances limit start floats .answer)
+      go : (n : ℕ) → NumberedOpening (openBy n r .answer)
       go zero = tt
       go (suc n) = suc-ne-zero n
 

@@ -1,7 +1,7 @@
 -- The changes that *again* carries: one is over its tolerance, so they are not all zero, and each has a report.
 use mathlib.Core.Path.{_≡_, refl, sym, ap, _∙_}
 use mathlib.Core.Bool.{Bool, true, false}
-use Prim.Native.Nat.{ℕ, zero, suc, _*_, _^_, _≤_, _<_}
+use Prim.Native.Nat.{ℕ, zero, suc, _*_, _^_, _≤_}
 use native.Mathlib.Omega.{arith}
 use lib.IntN.{pos, natAbs}
 use Rattle.integers.specs.Parts.{integers}
@@ -12,7 +12,8 @@ use Rattle.exact.specs.Laws.{numerator-exactOf}
 use Rattle.ticks.specs.declared.Sample.{Sample}
 use Rattle.ticks.specs.Samples.{wholeOf}
 use Rattle.axis.specs.Formulas.{motionOf}
-use Rattle.axis.specs.Agreement.{Kind, ofPosition, ofVelocity, sizes}
+use Rattle.axis.specs.Agreement.{sizes}
+use Rattle.axis.specs.Kinds.{Kind, ofPosition, ofVelocity}
 use Rattle.axis.proofs.Agreement.{size-reports}
 use Rattle.session.specs.declared.Point.{Point}
 use Rattle.session.specs.declared.Session.{Session}

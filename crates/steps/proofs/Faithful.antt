@@ -1,10 +1,8 @@
 -- Every answer that a call gives is faithful, and a change of an *again* is reported above zero.
 use mathlib.Core.Path.{_≡_, refl, sym, subst}
 use mathlib.Core.Bool.{Bool, true, false, cond}
-use mathlib.Core.List.{List}
 use Prim.Native.Nat.{ℕ, zero, suc, _*_, _^_, _≤_, _<_}
 use lib.Dec.{T}
-use lib.Ieee.{Float}
 use lib.Ieee.Positive.{positive}
 use lib.IntN.{pos, natAbs}
 use lib.Signed.{_<ℤ_}
@@ -21,7 +19,8 @@ use Rattle.ticks.specs.Samples.{wholeOf}
 use Rattle.axis.specs.declared.Motion.{Motion}
 use Rattle.axis.specs.declared.Tolerances.{Tolerances}
 use Rattle.axis.specs.Formulas.{motionOf, still}
-use Rattle.axis.specs.Agreement.{Kind, ofPosition, ofVelocity, toleranceOf, sizes}
+use Rattle.axis.specs.Agreement.{sizes}
+use Rattle.axis.specs.Kinds.{Kind, ofPosition, ofVelocity, toleranceOf}
 use Rattle.axis.specs.Ready.{Placed}
 use Rattle.axis.proofs.Kept.{still-placed}
 use Rattle.axis.proofs.Agreement.{size-reports}
@@ -32,7 +31,7 @@ use Rattle.session.specs.Ready.{PlacedPoint}
 use Rattle.session.proofs.Rules.{waiting}
 use Rattle.session.proofs.Apart.{Over}
 use Rattle.session.proofs.Kept.{predicted-point-placed, corrected-point-placed}
-use Rattle.steps.specs.declared.Start.{Start}
+use Rattle.session.specs.Requests.{Request}
 use Rattle.steps.specs.declared.ReportedMotion.{ReportedMotion}
 use Rattle.steps.specs.declared.ReportedPoint.{ReportedPoint}
 use Rattle.steps.specs.declared.Correction.the-variants as C
@@ -40,7 +39,7 @@ use Rattle.steps.specs.Answers.{answer, reportedMotion, reportedPoint, r
 use Rattle.steps.specs.Faithful.{Faithful, FaithfulMotion, FaithfulPoint, FaithfulAnswer}
 use Rattle.steps.specs.Refusals.{openRefusal, predictRefusal, agrees, largestChange, correctRefusal, withdrawRefusal}
 use Rattle.steps.specs.Steps.{openOf, predictOf, predictAnswerBy, correctOf, correctAnswerBy, withdrawOf}
-use Rattle.steps.proofs.Refusals.{predict-0, correct-0}
+use Rattle.steps.proofs.Refusals.{predicted-range, corrected-awaiting, corrected-range}
 use Rattle.steps.proofs.Answers.{open-answers, predict-answers, correct-answers, withdraw-answers}
 use Rattle.steps.proofs.Changes.{reportedIn, size-in, again-over, largest-within}
 
@@ -101,8 +100,8 @@ reported-over t c size f (kind, h) r =
 nothing : (n : ℕ) → FaithfulAnswer (answer n 0 noPoint noChange)
 nothing n = record { point = no-point; change = no-change }
 
-pub open-faithful : (p : ℕ) (tolerances : Tolerances) (limit : ℕ) (start : Start) (floats : List Float) → FaithfulAnswer (openingAnswer (openOf p tolerances limit start floats .answer))
-open-faithful p tolerances limit start floats = subst FaithfulAnswer (sym (open-answers p tolerances limit start floats)) (nothing (openRefusal p tolerances limit start floats))
+pub open-faithful : (r : Request) → FaithfulAnswer (openingAnswer (openOf r .answer))
+open-faithful r = subst FaithfulAnswer (sym (open-answers r)) (nothing (openRefusal r))
 
 pub withdraw-faithful : (s : Session) → FaithfulAnswer (withdrawalAnswer (withdrawOf s .answer))
 withdraw-faithful s = subst FaithfulAnswer (sym (withdraw-answers s)) (nothing (withdrawRefusal s))
@@ -111,7 +110,7 @@ pub predict-faithful : (s : Session) → FaithfulAnswer (predictionAnswer (predi
 predict-faithful s = subst FaithfulAnswer (sym (predict-answers s)) (go (predictRefusal s) refl)
   where
     go : (n : ℕ) → predictRefusal s ≡ n → FaithfulAnswer (predictAnswerBy n s)
-    go zero e = record { point = point (predictedPoint s) (predicted-point-placed s (predict-0 s .0 e .range)); change = no-change }
+    go zero e = record { point = point (predictedPoint s) (predicted-point-placed s (predicted-range s e)); change = no-change }
     go (suc n) e = nothing (suc n)
 
 module _ (s : Session) (a : Sample) where
@@ -127,9 +126,8 @@ module _ (s : Session) (a : Sample) where
 
       go : (n : ℕ) → correctRefusal s a ≡ n → FaithfulAnswer (correctAnswerBy n s corrected)
       go zero e =
-          let r = correct-0 s a .0 e in
-          let p = corrected-point-placed s (wholeOf a) (r .range) in
-          by (agrees s corrected) p (change (largestChange s corrected) (largest-within s corrected (waiting s (r .standing)) p))
+          let p = corrected-point-placed s (wholeOf a) (corrected-range s a e) in
+          by (agrees s corrected) p (change (largestChange s corrected) (largest-within s corrected (waiting s (corrected-awaiting s a e)) p))
       go (suc n) e = record { point = no-point; change = no-change }
 
   -- a change that *again* carries is over its tolerance, and reported above zero

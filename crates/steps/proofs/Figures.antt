@@ -2,7 +2,7 @@
 use mathlib.Core.Path.{refl}
 use lib.Ieee.{add, div, ofInt}
 use Rattle.integers.specs.Lines.{All}
-use Rattle.integers.specs.Tests.{firstOf}
+use Rattle.rules.specs.Rules.{firstOf}
 use Rattle.integers.specs.Differences.{byDifferences}
 use Rattle.exact.specs.Numerator.{exactOf, numerator, sameExact}
 use Rattle.coefficients.specs.Fraction.{times}
@@ -20,11 +20,12 @@ use Rattle.session.specs.Moves.{nowhere, presentPoint, estimateOf, predictedPoi
 use Rattle.session.specs.Apart.{pointsAgree, pointChange}
 use Rattle.session.specs.Holding.{countsHold, samePoint, settledHolds, estimateBegins, awaitingHolds, holds, settled, awaiting}
 use Rattle.steps.specs.Answers.{reportedMotion, reportedPoint, reportedChange, noPoint, noChange}
-use Rattle.steps.specs.Opening.{wholePoint, axisSamples, openedWith}
+use Rattle.session.specs.Requests.{exactPoint}
+use Rattle.steps.specs.Opening.{axisSamples, openedWith}
 use Rattle.steps.specs.Refusals.{openRefusal, full, predictRefusal, agrees, largestChange, isLast, correctRefusal}
 use Rattle.steps.specs.Steps.{openOf, predictOf, correctOf}
 use Rattle.steps.specs.Figures.{figures}
 
 pub as-printed : All figures
-unfolding add div ofInt firstOf byDifferences exactOf numerator sameExact times c g l s total terms next divided run positionPredictor positionCorrector velocityPredictor velocityCorrector unsummedCowell roundedOf any motionOf still presentMotion predictedMotion correctedMotion keptSamples advancedAxis openedAxis emptyAxis sameMotion inRange changeOf sizes agreesOn remaindersHold samplesSmall emptyZero pointsHold settingsHold nowhere presentPoint estimateOf predictedPoint correctedPoint pointInRange pointsAgree pointChange settledAgain awaitingAt acceptedAt openedSession closedSession countsHold samePoint settledHolds estimateBegins awaitingHolds holds settled awaiting reportedMotion reportedPoint reportedChange noPoint noChange wholePoint axisSamples openedWith openRefusal full predictRefusal agrees largestChange isLast correctRefusal openOf predictOf correctOf
+unfolding add div ofInt firstOf byDifferences exactOf numerator sameExact times c g l s total terms next divided run positionPredictor positionCorrector velocityPredictor velocityCorrector unsummedCowell roundedOf any motionOf still presentMotion predictedMotion correctedMotion keptSamples advancedAxis openedAxis emptyAxis sameMotion inRange changeOf sizes agreesOn remaindersHold samplesSmall emptyZero pointsHold settingsHold nowhere presentPoint estimateOf predictedPoint correctedPoint pointInRange pointsAgree pointChange settledAgain awaitingAt acceptedAt openedSession closedSession countsHold samePoint settledHolds estimateBegins awaitingHolds holds settled awaiting reportedMotion reportedPoint reportedChange noPoint noChange exactPoint axisSamples openedWith openRefusal full predictRefusal agrees largestChange isLast correctRefusal openOf predictOf correctOf
 as-printed = (refl, (refl, (refl, (refl, (refl, (refl, (refl, (refl, (refl, (refl, (refl, (refl, (refl, (refl, (refl, (refl, (refl, (refl, (refl, (refl, (refl, (refl, (refl, (refl, (refl, (refl, (refl, (refl, (refl, (refl, (refl, (refl, tt))))))))))))))))))))))))))))))))

@@ -21,17 +21,18 @@ use Rattle.session.specs.Ready.{PlacedPoint}
 use Rattle.axis.proofs.Sound.{placed}
 use Rattle.axis.proofs.Places.{small-samples, places-hold}
 use Rattle.session.proofs.Kept.{point-placed}
-use Rattle.steps.specs.declared.Start.{Start}
-use Rattle.steps.specs.Opening.{wholeMotion, wholePoint, axisSamples}
+use Rattle.session.specs.declared.WholePoint.{WholePoint}
+use Rattle.session.specs.Requests.{wholeMotion, exactPoint}
+use Rattle.steps.specs.Opening.{axisSamples}
 
 -- ---- the point
 
 whole-placed : (x v : ℤ) → inRange (wholeMotion x v) ≡ true → Placed (wholeMotion x v)
 whole-placed x v = placed (wholeMotion x v) (lit< tt) (lit< tt)
 
-pub start-placed : (start : Start) → pointInRange (wholePoint start) ≡ true → PlacedPoint (wholePoint start)
-unfolding wholePoint
-start-placed start = point-placed (wholePoint start) (whole-placed (start .x) (start .vx)) (whole-placed (start .y) (start .vy)) (whole-placed (start .z) (start .vz))
+pub exact-point-placed : (start : WholePoint) → pointInRange (exactPoint start) ≡ true → PlacedPoint (exactPoint start)
+unfolding exactPoint
+exact-point-placed start = point-placed (exactPoint start) (whole-placed (start .x) (start .vx)) (whole-placed (start .y) (start .vy)) (whole-placed (start .z) (start .vz))
 
 -- ---- the samples
 

@@ -1,14 +1,16 @@
 -- The paper's number and values of every answer: zeros where an answer carries nothing. Definitions only.
 use Prim.Native.Nat.{ℕ, zero, suc}
-use mathlib.Core.Path.{_≡_}
+use Rattle.rules.specs.Rules.{NotZero}
 use Rattle.exact.specs.Report.{reportedOf}
 use Rattle.axis.specs.declared.Motion.{Motion}
 use Rattle.axis.specs.Formulas.{still}
-use Rattle.axis.specs.Agreement.{Kind, sizes}
+use Rattle.axis.specs.Agreement.{sizes}
+use Rattle.axis.specs.Kinds.{Kind}
 use Rattle.session.specs.declared.Point.{Point}
 use Rattle.session.specs.Moves.{nowhere}
 use Rattle.steps.specs.declared.ReportedMotion.{ReportedMotion}
 use Rattle.steps.specs.declared.ReportedPoint.{ReportedPoint}
+use Rattle.steps.specs.declared.Answer.{Answer}
 use Rattle.steps.specs.declared.Opening.{Opening}
 use Rattle.steps.specs.declared.Prediction.{Prediction}
 use Rattle.steps.specs.declared.Correction.{Correction}
@@ -39,12 +41,6 @@ noChange = reportedMotion still
 -- ---- one shape for the answers of the four calls
 
 -- the kind tells an accepted point, 1, and one to be corrected again, 2, from all other answers, 0
-pub record Answer : Type 0 where
-  pub number : ℕ
-  pub kind : ℕ
-  pub point : ReportedPoint
-  pub change : ReportedMotion
-
 abbrev pub answer : ℕ → ℕ → ReportedPoint → ReportedMotion → Answer
 answer number kind point change = record { number = number; kind = kind; point = point; change = change }
 
@@ -75,9 +71,6 @@ withdrawalAnswer W.Withdrawn = answer 0 0 noPoint noChange
 withdrawalAnswer (W.Refused n) = refused n
 
 -- ---- a refusal's number is not 0
-
-abbrev pub NotZero : ℕ → Type 0
-NotZero n = n ≡ 0 → ⊥
 
 abbrev pub NumberedOpening : Opening → Type 0
 NumberedOpening O.Opened = Unit {0}

@@ -11,7 +11,7 @@ use Rattle.exact.specs.Report.{reportOf}
 use Rattle.exact.specs.Rounding.{ordinary}
 use Rattle.steps.specs.declared.ReportedMotion.{ReportedMotion}
 use Rattle.steps.specs.declared.ReportedPoint.{ReportedPoint}
-use Rattle.steps.specs.Answers.{Answer}
+use Rattle.steps.specs.declared.Answer.{Answer}
 
 pub record Faithful (r : Reported) : Type 0 where
   pub report : r .report ≡ reportOf (r .exact)

@@ -13,10 +13,12 @@ use Rattle.coefficients.specs.Formulas.{unsummedCowell}
 use Rattle.ticks.specs.Figures as Rounding
 use Rattle.axis.specs.Formulas.{ticks, still}
 use Rattle.session.specs.declared.Session.{Session}
+use Rattle.session.specs.declared.WholePoint.{WholePoint}
 use Rattle.session.specs.declared.State.{State}
 use Rattle.session.specs.declared.State.the-variants.{Closed, Settled, Awaiting}
-use Rattle.steps.specs.Answers.{Answer, answer, refused, reportedMotion, reportedPoint, openingAnswer, predictionAnswer, correctionAnswer}
-use Rattle.steps.specs.Opening.{wholeMotion}
+use Rattle.steps.specs.declared.Answer.{Answer}
+use Rattle.steps.specs.Answers.{answer, refused, reportedMotion, reportedPoint, openingAnswer, predictionAnswer, correctionAnswer}
+use Rattle.session.specs.Requests.{wholeMotion, request}
 use Rattle.steps.specs.Steps.{openOf, predictOf, correctOf}
 
 -- ---- the calls of a row
@@ -40,7 +42,8 @@ widest = 1048576
 -- an opening: p, the position tolerance beside the widest velocity tolerance, limit, x's position and velocity, floats
 abbrev opens : ℕ → ℕ → ℕ → ℤ → ℤ → List Float → Shown
 opens p tolerance limit x vx floats =
-    let r = openOf p (record { position = tolerance; velocity = widest }) limit (record { x = x; y = pos 0; z = pos 0; vx = vx; vy = pos 0; vz = pos 0 }) floats in
+    let point : WholePoint = record { x = x; y = pos 0; z = pos 0; vx = vx; vy = pos 0; vz = pos 0 } in
+    let r = openOf (request p (record { position = tolerance; velocity = widest }) limit point floats) in
     record { answer = openingAnswer (r .answer); session = r .session }
 
 abbrev shown : Session → Call → Shown

@@ -3,6 +3,5 @@ pub mod Answers
 pub mod Opening
 pub mod Refusals
 pub mod Steps
-pub mod Unrefused
 pub mod Faithful
 pub mod Figures

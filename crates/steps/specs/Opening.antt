@@ -4,21 +4,12 @@ use mathlib.Core.List.{List, [], _∷_}
 use lib.IntN.{ℤ}
 use lib.Ieee.{Float}
 use lib.ListN.{getD}
-use Rattle.exact.specs.Numerator.{wholly}
 use Rattle.ticks.specs.Round.{roundedOf, ticksIn}
-use Rattle.axis.specs.declared.Motion.{Motion}
 use Rattle.axis.specs.declared.Tolerances.{Tolerances}
 use Rattle.axis.specs.Formulas.{places}
 use Rattle.session.specs.declared.Point.{Point}
 use Rattle.session.specs.declared.Session.{Session}
 use Rattle.session.specs.Moves.{openedSession}
-use Rattle.steps.specs.declared.Start.{Start}
-
-abbrev pub wholeMotion : ℤ → ℤ → Motion
-wholeMotion position velocity = record { position = wholly position; velocity = wholly velocity }
-
-unfoldable pub wholePoint : Start → Point
-wholePoint s = record { x = wholeMotion (s .x) (s .vx); y = wholeMotion (s .y) (s .vy); z = wholeMotion (s .z) (s .vz) }
 
 -- the rounded samples of axis k, newest first, out of floats x, y, z, x, y, z, .. that begin with the oldest point
 unfoldable pub axisSamples : ℕ → ℕ → List Float → List ℤ

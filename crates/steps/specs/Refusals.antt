@@ -5,22 +5,21 @@ use mathlib.Core.List.{List, [], _∷_, _++_}
 use lib.Dec.{eqb, leb}
 use lib.Ieee.{Float}
 use lib.ListN.{length}
-use Rattle.integers.specs.Tests.{_and_, firstOf}
+use Rattle.integers.specs.Tests.{_and_}
+use Rattle.rules.specs.Rules.{firstOf}
 use Rattle.ticks.specs.declared.Fault.{Fault}
 use Rattle.ticks.specs.declared.Fault.the-variants.{Nothing, NotANumber, Infinite, TooLarge}
 use Rattle.ticks.specs.declared.Sample.{Sample}
 use Rattle.ticks.specs.Round.{isNotANumber, isInfinite, isTooLarge}
 use Rattle.ticks.specs.Samples.{any, axesOf, wholeOf}
-use Rattle.axis.specs.declared.Tolerances.{Tolerances}
-use Rattle.axis.specs.Agreement.{Kind}
+use Rattle.axis.specs.Kinds.{Kind}
 use Rattle.session.specs.declared.Point.{Point}
 use Rattle.session.specs.declared.Session.{Session}
 use Rattle.session.specs.Numbers.{pointsHold, settingsHold, mostPoints}
 use Rattle.session.specs.Moves.{estimateOf, predictedPoint, correctedPoint, pointInRange}
 use Rattle.session.specs.Apart.{pointsAgree, pointChange}
 use Rattle.session.specs.Holding.{settled, awaiting}
-use Rattle.steps.specs.declared.Start.{Start}
-use Rattle.steps.specs.Opening.{wholePoint}
+use Rattle.session.specs.Requests.{Request, exactPoint}
 
 -- ---- samples: all of them are looked at for 4 before any is for 5
 
@@ -39,16 +38,16 @@ faultNumber TooLarge = 5
 
 -- ---- open
 
-abbrev pub openRules : ℕ → Tolerances → ℕ → Start → List Float → List (Bool × ℕ)
-openRules p tolerances limit start floats =
-    (not (pointsHold p), 1)
-    ∷ (not (eqb (length floats) (3 * p)), 2)
-    ∷ (not (settingsHold tolerances limit), 3)
-    ∷ (not (pointInRange (wholePoint start)), 6)
-    ∷ sampleRules floats
+abbrev pub openRules : Request → List (Bool × ℕ)
+openRules r =
+    (not (pointsHold (r .points)), 1)
+    ∷ (not (eqb (length (r .floats)) (3 * r .points)), 2)
+    ∷ (not (settingsHold (r .tolerances) (r .limit)), 3)
+    ∷ (not (pointInRange (exactPoint (r .point))), 6)
+    ∷ sampleRules (r .floats)
 
-unfoldable pub openRefusal : ℕ → Tolerances → ℕ → Start → List Float → ℕ
-openRefusal p tolerances limit start floats = firstOf (openRules p tolerances limit start floats)
+unfoldable pub openRefusal : Request → ℕ
+openRefusal r = firstOf (openRules r)
 
 -- ---- predict
 

@@ -1,17 +1,13 @@
 -- The four calls: the record and the answer that each gives, and that answer in the paper's shape. Definitions only.
 use Prim.Native.Nat.{ℕ, zero, suc, _+_}
 use mathlib.Core.Bool.{Bool, true, false, cond}
-use mathlib.Core.List.{List}
 use lib.Dec.{eqb}
-use lib.Ieee.{Float}
 use Rattle.ticks.specs.declared.Sample.{Sample}
 use Rattle.ticks.specs.declared.WholeSample.{WholeSample}
 use Rattle.ticks.specs.Samples.{wholeOf}
-use Rattle.axis.specs.declared.Tolerances.{Tolerances}
 use Rattle.session.specs.declared.Point.{Point}
 use Rattle.session.specs.declared.Session.{Session}
 use Rattle.session.specs.Moves.{predictedPoint, correctedPoint, settledAgain, awaitingAt, acceptedAt, closedSession}
-use Rattle.steps.specs.declared.Start.{Start}
 use Rattle.steps.specs.declared.AfterOpen.{AfterOpen}
 use Rattle.steps.specs.declared.AfterPredict.{AfterPredict}
 use Rattle.steps.specs.declared.AfterCorrect.{AfterCorrect}
@@ -20,18 +16,20 @@ use Rattle.steps.specs.declared.Opening.the-variants as O
 use Rattle.steps.specs.declared.Prediction.the-variants as P
 use Rattle.steps.specs.declared.Correction.the-variants as C
 use Rattle.steps.specs.declared.Withdrawal.the-variants as W
-use Rattle.steps.specs.Answers.{Answer, answer, unless, noPoint, noChange, reportedPoint, reportedChange}
-use Rattle.steps.specs.Opening.{wholePoint, openedWith}
+use Rattle.steps.specs.declared.Answer.{Answer}
+use Rattle.steps.specs.Answers.{answer, unless, noPoint, noChange, reportedPoint, reportedChange}
+use Rattle.session.specs.Requests.{Request, exactPoint}
+use Rattle.steps.specs.Opening.{openedWith}
 use Rattle.steps.specs.Refusals.{openRefusal, predictRefusal, correctRefusal, withdrawRefusal, agrees, largestChange}
 
 -- ---- open: whatever the record held before
 
-abbrev pub openBy : ℕ → ℕ → Tolerances → ℕ → Start → List Float → AfterOpen
-openBy zero p tolerances limit start floats = record { session = openedWith p tolerances limit (wholePoint start) floats; answer = O.Opened }
-openBy (suc n) p tolerances limit start floats = record { session = closedSession; answer = O.Refused (suc n) }
+abbrev pub openBy : ℕ → Request → AfterOpen
+openBy zero r = record { session = openedWith (r .points) (r .tolerances) (r .limit) (exactPoint (r .point)) (r .floats); answer = O.Opened }
+openBy (suc n) r = record { session = closedSession; answer = O.Refused (suc n) }
 
-unfoldable pub openOf : ℕ → Tolerances → ℕ → Start → List Float → AfterOpen
-openOf p tolerances limit start floats = openBy (openRefusal p tolerances limit start floats) p tolerances limit start floats
+unfoldable pub openOf : Request → AfterOpen
+openOf r = openBy (openRefusal r) r
 
 -- ---- predict
 
@@ -68,8 +66,8 @@ withdrawOf s = withdrawBy (withdrawRefusal s) s
 
 -- ---- what each call answers, in the paper's shape: the number of the first rule that applies, and zeros beside it unless it is 0
 
-abbrev pub openAnswer : ℕ → Tolerances → ℕ → Start → List Float → Answer
-openAnswer p tolerances limit start floats = answer (openRefusal p tolerances limit start floats) 0 noPoint noChange
+abbrev pub openAnswer : Request → Answer
+openAnswer r = answer (openRefusal r) 0 noPoint noChange
 
 abbrev pub predictAnswerBy : ℕ → Session → Answer
 predictAnswerBy n s = answer n 0 (unless n (reportedPoint (predictedPoint s)) noPoint) noChange

@@ -20,7 +20,7 @@ use ticks::Sample;
 use ticks::WholeSample;
 ghost use mathlib.Core.Path.{_≡_};
 ghost use mathlib.Core.Bool.{true};
-ghost use Rattle.integers.specs.Tests.{firstOf};
+ghost use Rattle.rules.specs.Rules.{firstOf};
 ghost use Rattle.axis.specs.Agreement.{sizes};
 ghost use Rattle.ticks.specs.Samples.{WithinLimit};
 ghost use Rattle.session.specs.Holding.{awaiting};

@@ -13,8 +13,9 @@ pub use checks::fault_number;
 pub use corrects::correct_step;
 pub use opens::axis_samples;
 pub use opens::open_step;
-pub use opens::start_point;
 pub use predicts::predict_step;
+pub use reports::no_change;
+pub use reports::no_reported_point;
 pub use reports::report_motion;
 pub use reports::report_point;
 pub use withdraws::withdraw_step;
@@ -29,16 +30,6 @@ pub struct ReportedPoint {
     pub x: ReportedMotion,
     pub y: ReportedMotion,
     pub z: ReportedMotion,
-}
-
-// Whole positions and velocities to open at.
-pub struct Start {
-    pub x: i64,
-    pub y: i64,
-    pub z: i64,
-    pub vx: i64,
-    pub vy: i64,
-    pub vz: i64,
 }
 
 pub enum Opening {
@@ -61,6 +52,15 @@ pub enum Correction {
 pub enum Withdrawal {
     Withdrawn,
     Refused(u8),
+}
+
+// An answer in the paper's shape: its number, its kind (1 an accepted point, 2 one to be corrected again, 0 all other), a point and the largest
+// change of each kind, zeros where it carries nothing.
+pub struct Answer {
+    pub number: u8,
+    pub kind: u8,
+    pub point: ReportedPoint,
+    pub change: ReportedMotion,
 }
 
 pub struct AfterOpen {

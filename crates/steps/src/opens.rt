@@ -1,14 +1,13 @@
 // Open: a session settled at point 0, whatever the record held before.
 use crate::AfterOpen;
 use crate::Opening;
-use crate::Start;
 use crate::checks::fault_number;
-use axis::Motion;
 use axis::Tolerances;
-use exact::Exact;
 use session::Point;
 use session::Session;
+use session::WholePoint;
 use session::closed;
+use session::exact_point;
 use session::open_at;
 use session::point_in_range;
 use session::points_hold;
@@ -19,26 +18,9 @@ ghost use lib.ListN.{length};
 ghost use Rattle.axis.specs.Formulas.{places};
 ghost use Rattle.session.specs.Moves.{closedSession};
 ghost use Rattle.session.specs.Ready.{PlacedPoint};
-ghost use Rattle.steps.specs.Opening.{wholeMotion, wholePoint, axisSamples, openedWith};
+ghost use Rattle.session.specs.Requests.{request};
+ghost use Rattle.steps.specs.Opening.{axisSamples, openedWith};
 ghost use Rattle.steps.specs.Steps.{openOf};
-
-fn at_whole(position: i64, velocity: i64) -> Motion
-    ensures { λ r. ⌜ r ≡ wholeMotion position velocity ⌝ }
-{
-    Motion {
-        position: Exact::of_whole(position),
-        velocity: Exact::of_whole(velocity),
-    }
-}
-
-pub fn start_point(start: Start) -> Point
-    ensures { λ r. ⌜ r ≡ wholePoint start ⌝ }
-{
-    let x = at_whole(start.x, start.vx);
-    let y = at_whole(start.y, start.vy);
-    let z = at_whole(start.z, start.vz);
-    Point { x, y, z }
-}
 
 // The samples of axis k, newest first, out of x, y, z, x, y, z, .. that begin with the oldest point.
 pub fn axis_samples(p: usize, k: usize, floats: &[f64]) -> [i64; 9]
@@ -84,10 +66,10 @@ pub fn open_step(
     points: usize,
     tolerances: Tolerances,
     limit: u64,
-    start: Start,
+    point: WholePoint,
     floats: &[f64],
 ) -> AfterOpen
-    ensures { λ r. ⌜ r ≡ openOf points tolerances limit start (now (floats .entry)) ⌝ }
+    ensures { λ r. ⌜ r ≡ openOf (request points tolerances limit point (now (floats .entry))) ⌝ }
 {
     if !points_hold(points) {
         return refuse_open(1);
@@ -98,7 +80,7 @@ pub fn open_step(
     if !settings_hold(tolerances, limit) {
         return refuse_open(3);
     }
-    let q = start_point(start);
+    let q = exact_point(point);
     if !point_in_range(q) {
         return refuse_open(6);
     }

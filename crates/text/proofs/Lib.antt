@@ -1,5 +1,4 @@
--- Laws over the crate's definitions: what is written (`Writes`), and what is read (`Decimals`, `Signs`, `Hexadecimals`).
-pub mod Writes
+-- Laws over the crate's definitions of what is read.
 mod Decimals
 mod Signs
 mod Hexadecimals

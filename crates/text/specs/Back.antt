@@ -1,5 +1,5 @@
 -- A number that was printed and is read back is the same number, and reading accepts nothing but what printing writes: each number has one text.
-use mathlib.Core.Path.{_≡_, refl, sym, _∙_, ap}
+use mathlib.Core.Path.{_≡_, refl, sym, _∙_, ap, ap₂}
 use mathlib.Core.Bool.{Bool, true, false, cond}
 use mathlib.Core.List.{List, [], _∷_, _++_, append-nil}
 use Prim.Native.Nat.{ℕ, zero, suc, _+_, _^_, _<_, _≤_}
@@ -18,6 +18,7 @@ use Rattle.text.specs.declared.Unsigned.{Unsigned}
 use Rattle.text.specs.declared.Unsigned.the-variants as U
 use Rattle.text.specs.declared.Signed.the-variants as S
 use Rattle.text.specs.Places.{Wrote, Stands}
+use Rattle.text.specs.Pieces.{up-to-end}
 use Rattle.text.specs.Numbers.{decimal, signed, hex, ascii}
 use Rattle.text.specs.Reading.{decimalIn, decimalAt, below, notBelow, signedAt, hexAt}
 use Rattle.text.specs.DecimalBack.{NoDigit, ended, Splits}
@@ -137,14 +138,17 @@ module _ (s : List ℕ) (at : ℕ) (z : ℤ) (end : ℕ) where
 -- ---- what a function wrote is read back
 
 module _ {a : List ℕ} {at : ℕ} {word b : List ℕ} {end : ℕ} (w : Wrote a at word b end) (h : at ≤ length a) where
+  up-to : take end b ≡ take at a ++ word
+  up-to = ap₂ take (w .ends) (w .holds) ∙ up-to-end a at word
+
   past : drop end (take end b) ≡ []
   past = drop-of-length-le (take end b) {i = end} (omega (arith, length-take end b))
 
-  written : Stands (take end b) at word end
-  written =
+  stands-there : Stands (take end b) at word end
+  stands-there =
       record {
         ends = w .ends;
-        holds = ap (drop at) (w .holds) ∙ drop-at (take at a) word at (length-take-le at a h) ∙ sym (append-nil word) ∙ ap (λ r. word ++ r) (sym past);
+        holds = ap (drop at) up-to ∙ drop-at (take at a) word at (length-take-le at a h) ∙ sym (append-nil word) ∙ ap (λ r. word ++ r) (sym past);
       }
 
   no-more : NoDigit (drop end (take end b))
@@ -152,10 +156,10 @@ module _ {a : List ℕ} {at : ℕ} {word b : List ℕ} {end : ℕ} (w : Wrote a 
 
 module _ {a b : List ℕ} {at end : ℕ} (h : at ≤ length a) where
   pub decimal-printed : (n : ℕ) → n < 2 ^ 64 → Wrote a at (decimal n) b end → decimalAt (take end b) at ≡ U.Number n end
-  decimal-printed n f w = decimal-back (take end b) at n end f (written w h) (no-more w h)
+  decimal-printed n f w = decimal-back (take end b) at n end f (stands-there w h) (no-more w h)
 
   pub signed-printed : (z : ℤ) → SFits w64 z → Wrote a at (signed z) b end → signedAt (take end b) at ≡ S.Number z end
-  signed-printed z f w = signed-back (take end b) at z end f (written w h) (no-more w h)
+  signed-printed z f w = signed-back (take end b) at z end f (stands-there w h) (no-more w h)
 
   pub hex-printed : (n : ℕ) → n < 2 ^ 64 → Wrote a at (hex n) b end → hexAt (take end b) at ≡ U.Number n end
-  hex-printed n f w = hex-back (take end b) at n end f (written w h)
+  hex-printed n f w = hex-back (take end b) at n end f (stands-there w h)

@@ -1,5 +1,4 @@
 -- `drawing::centred` meets its contract: a number below 2^16, less 2^15, fits.
-use mathlib.Core.Path.{_≡_}
 use Prim.Native.Nat.{ℕ, _<_, _%_, _/_}
 use native.Mathlib.Omega.{arith}
 use borrow.Author.Needs.{needs}

@@ -14,5 +14,5 @@ use Rattle.stepper.proofs.open.Code as code
 pub open-spec : {M : Type 1} → stated.statement M
 unfolding code.routine
 open-spec 𝓤 H 𝓜 𝓖 𝓡 =
-    call-spec opens 𝓤 H 𝓜 𝓖 𝓡 (promise.clauses 𝓤 H (𝓖 .A) (𝓜 .mem) (𝓡 .run)) (λ κs a _. factI 𝓤 _ _ (refl, refl, open-answers _ _ _ _ _))
+    call-spec opens 𝓤 H 𝓜 𝓖 𝓡 (promise.clauses 𝓤 H (𝓖 .A) (𝓜 .mem) (𝓡 .run)) (λ κs a _. factI 𝓤 _ _ (refl, refl, open-answers _))
     code.env key.name step.name (code.unfolded 𝓤 H 𝓜 𝓡) step.routine code.calls-steps·open-step (step-met.met 𝓤 H 𝓜 𝓖 𝓡)

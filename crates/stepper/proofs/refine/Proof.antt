@@ -2,9 +2,9 @@
 use mathlib.Core.Path.{refl}
 use contract.Monad.{factI}
 use Rattle.lending.proofs.Call.{call-spec}
-use Rattle.rounds.proofs.refine_step.Symbol as step
-use Rattle.rounds.proofs.refine_step.Met as step-met
-use Rattle.rounds.proofs.Answered.{refine-answers}
+use Rattle.epoch_steps.proofs.refine_step.Symbol as step
+use Rattle.epoch_steps.proofs.refine_step.Met as step-met
+use Rattle.epoch_steps.proofs.Answered.{refine-answers}
 use Rattle.stepper.proofs.Plans.{refines}
 use Rattle.stepper.proofs.refine as promise
 use Rattle.stepper.proofs.refine.Key as key
@@ -15,4 +15,4 @@ pub refine-spec : {M : Type 1} → stated.statement M
 unfolding code.routine
 refine-spec 𝓤 H 𝓜 𝓖 𝓡 =
     call-spec refines 𝓤 H 𝓜 𝓖 𝓡 (promise.clauses 𝓤 H (𝓖 .A) (𝓜 .mem) (𝓡 .run)) (λ κs a _. factI 𝓤 _ _ (refl, refl, refine-answers _ _))
-    code.env key.name step.name (code.unfolded 𝓤 H 𝓜 𝓡) step.routine code.calls-rounds·refine-step (step-met.met 𝓤 H 𝓜 𝓖 𝓡)
+    code.env key.name step.name (code.unfolded 𝓤 H 𝓜 𝓡) step.routine code.calls-epoch-steps·refine-step (step-met.met 𝓤 H 𝓜 𝓖 𝓡)

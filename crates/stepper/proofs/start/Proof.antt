@@ -2,9 +2,9 @@
 use mathlib.Core.Path.{refl}
 use contract.Monad.{factI}
 use Rattle.lending.proofs.Call.{call-spec}
-use Rattle.rounds.proofs.start_step.Symbol as step
-use Rattle.rounds.proofs.start_step.Met as step-met
-use Rattle.rounds.proofs.Answered.{start-answers}
+use Rattle.epoch_steps.proofs.start_step.Symbol as step
+use Rattle.epoch_steps.proofs.start_step.Met as step-met
+use Rattle.epoch_steps.proofs.Answered.{start-answers}
 use Rattle.stepper.proofs.Plans.{starts}
 use Rattle.stepper.proofs.start as promise
 use Rattle.stepper.proofs.start.Key as key
@@ -14,5 +14,5 @@ use Rattle.stepper.proofs.start.Code as code
 pub start-spec : {M : Type 1} → stated.statement M
 unfolding code.routine
 start-spec 𝓤 H 𝓜 𝓖 𝓡 =
-    call-spec starts 𝓤 H 𝓜 𝓖 𝓡 (promise.clauses 𝓤 H (𝓖 .A) (𝓜 .mem) (𝓡 .run)) (λ κs a _. factI 𝓤 _ _ (refl, refl, start-answers _ _ _ _ _))
-    code.env key.name step.name (code.unfolded 𝓤 H 𝓜 𝓡) step.routine code.calls-rounds·start-step (step-met.met 𝓤 H 𝓜 𝓖 𝓡)
+    call-spec starts 𝓤 H 𝓜 𝓖 𝓡 (promise.clauses 𝓤 H (𝓖 .A) (𝓜 .mem) (𝓡 .run)) (λ κs a _. factI 𝓤 _ _ (refl, refl, start-answers _))
+    code.env key.name step.name (code.unfolded 𝓤 H 𝓜 𝓡) step.routine code.calls-epoch-steps·start-step (step-met.met 𝓤 H 𝓜 𝓖 𝓡)

@@ -1,5 +1,4 @@
 -- `axis::changes::agrees_on` meets its contract: the two tests.
-use mathlib.Core.Path.{_≡_}
 use Prim.Native.Nat.{_^_}
 use borrow.Author.Needs.{needs}
 use Rattle.integers.specs.Tests.{stop, go-on}

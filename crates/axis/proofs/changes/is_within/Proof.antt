@@ -12,7 +12,7 @@ use Rattle.exact.specs.declared.Exact.{Exact}
 use Rattle.exact.specs.Numerator.{D, numerator, exactOf, wholly}
 use Rattle.exact.specs.Laws.{part-below, numerator-exactOf, numerator-wholly}
 use Rattle.exact.specs.Bounds.{widen}
-use Rattle.axis.specs.Agreement.{apartBy}
+use Rattle.axis.specs.Kinds.{apartBy}
 use Rattle.axis.proofs.changes.is_within.Statement.{statement}
 use Rattle.axis.proofs.changes.is_within.Tie as tie
 

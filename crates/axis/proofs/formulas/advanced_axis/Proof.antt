@@ -7,7 +7,7 @@ use mir.Facts.{toZ-ofZ}
 use Rattle.exact.specs.Numerator.{exactOf, numerator}
 use Rattle.exact.specs.Laws.{made}
 use Rattle.exact.specs.Bounds.{widen}
-use Rattle.axis.specs.Formulas.{advancedAxis, keptSamples}
+use Rattle.axis.specs.Formulas.{axisWith, advancedAxis, keptSamples}
 use Rattle.axis.proofs.Sums.{next-is, next-bounded}
 use Rattle.axis.proofs.formulas.advanced_axis.Statement.{statement}
 use Rattle.axis.proofs.formulas.advanced_axis.Tie as tie
@@ -20,13 +20,14 @@ add-requires c κs =
 returns : tie.Need-returns
 unfolding advancedAxis
 returns c =
-    let d = c .before .before in
+    let n = c .before in
+    let d = n .before .before in
     let b = d .before .before .before in
     let a = b .args .a in
     let e = d .before .keep-samples .ensures ∙ ap (λ z. keptSamples (b .args .p) z (a .samples)) (toZ-ofZ (b .fits .sample)) in
     let f = next-is (a .first) (b .args .sample) (b .fits .sample) (d .next-first .ensures) in
-    let g = c .before .add .ensures ∙ ap (λ z. exactOf (numerator (a .second) +ℤ z)) (made _ f) in
-    λ i. record { first = f i; second = g i; samples = e i; estimate = c .no-motion .ensures i }
+    let g = n .before .add .ensures ∙ ap (λ z. exactOf (numerator (a .second) +ℤ z)) (made _ f) in
+    c .axis-with .ensures ∙ (λ i. axisWith (f i) (g i) (e i) (n .no-motion .ensures i))
 
 pub advanced-axis-spec : {M : Type 1} → statement M
-advanced-axis-spec = tie.close (tie.spec (λ c κs. search needs) (λ c κs. search needs) add-requires (λ c κs. tt) returns)
+advanced-axis-spec = tie.close (tie.spec (λ c κs. search needs) (λ c κs. search needs) add-requires (λ c κs. tt) (λ c κs. tt) returns)

@@ -6,7 +6,7 @@ use lib.IntN.{_+ℤ_}
 use Rattle.exact.specs.Numerator.{exactOf}
 use Rattle.exact.specs.Laws.{made}
 use Rattle.exact.specs.Bounds.{widen}
-use Rattle.axis.specs.Formulas.{openedAxis}
+use Rattle.axis.specs.Formulas.{axisWith, openedAxis}
 use Rattle.axis.proofs.Sums.{left-is, left-bounded}
 use Rattle.axis.proofs.formulas.opened_axis.Statement.{statement}
 use Rattle.axis.proofs.formulas.opened_axis.Tie as tie
@@ -26,14 +26,16 @@ add-requires c κs =
 returns : tie.Need-returns
 unfolding openedAxis
 returns c =
-    let d = c .before .before in
+    let n = c .before in
+    let d = n .before .before in
     let f = d .before .before in
     let b = f .before .before in
     let m = b .args .point in
     let first = left-is (m .velocity) _ (sfits-of (f .before .velocity-corrector .ok)) (f .before .velocity-corrector .ensures) (f .left-of .ensures) in
     let before = left-is (m .position) _ (sfits-of (d .before .position-corrector .ok)) (d .before .position-corrector .ensures) (d .left-of2 .ensures) in
-    let second = c .before .add .ensures ∙ ap₂ (λ y z. exactOf (y +ℤ z)) (made _ before) (made _ first) in
-    λ i. record { first = first i; second = second i; samples = b .args .samples; estimate = c .no-motion .ensures i }
+    let second = n .before .add .ensures ∙ ap₂ (λ y z. exactOf (y +ℤ z)) (made _ before) (made _ first) in
+    c .axis-with .ensures ∙ (λ i. axisWith (first i) (second i) (b .args .samples) (n .no-motion .ensures i))
 
 pub opened-axis-spec : {M : Type 1} → statement M
-opened-axis-spec = tie.close (tie.spec (λ c κs. search needs) left-of-requires (λ c κs. search needs) (λ c κs. search needs) add-requires (λ c κs. tt) returns)
+opened-axis-spec =
+    tie.close (tie.spec (λ c κs. search needs) left-of-requires (λ c κs. search needs) (λ c κs. search needs) add-requires (λ c κs. tt) (λ c κs. tt) returns)

@@ -6,19 +6,6 @@ use Rattle.script.proofs.Lengths.{hex-room}
 use Rattle.script.proofs.lines.put_reported.Statement.{statement}
 use Rattle.script.proofs.lines.put_reported.Tie as tie
 
-put-requires : tie.Need-put-requires
-put-requires c κs =
-    let s = c .before .before .before .before .before .before .before in
-    let w1 = c .before .before .before .put-exact .ensures in
-    omega (arith, s .pre, w1 .room, w1 .long)
-
-put-hex-requires : tie.Need-put-hex-requires
-put-hex-requires c κs =
-    let s = c .before .before .before .before .before .before .before .before .before .before .before .before in
-    let w1 = c .before .before .before .before .before .before .before .before .put-exact .ensures in
-    let w2 = within 1 (c .before .before .before .before .put .ensures) (omega arith) in
-    omega (arith, s .pre, w1 .room, w1 .long, w2 .room, w2 .long)
-
 returns : tie.Need-returns
 returns c =
     let w1 = c .before .before .before .before .before .before .before .before .before .before .before .put-exact .ensures in
@@ -27,4 +14,4 @@ returns c =
     then (then w1 w2) w3
 
 pub put-reported-spec : {M : Type 1} → statement M
-put-reported-spec = tie.close (tie.spec (λ c κs. search needs) put-requires (λ c κs. search needs) put-hex-requires (λ c. returns c .long) returns)
+put-reported-spec = tie.close (tie.spec (λ c κs. search needs) (λ c κs. search needs) (λ c κs. search needs) (λ c κs. search needs) (λ c. returns c .long) returns)

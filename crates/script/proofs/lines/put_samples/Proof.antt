@@ -1,9 +1,8 @@
 -- `script::lines::put_samples` stays within its room: nine numbers.
 use Prim.Native.Nat.{ℕ, _<_}
-use mathlib.Core.List.{List}
 use native.Mathlib.Omega.{arith}
 use borrow.Author.Needs.{needs}
-use lib.IntN.{ℤ, pos}
+use lib.IntN.{pos}
 use lib.ListN.{length, getD}
 use mir.Syntax.{w64}
 use mir.Val.{SFits}

@@ -1,5 +1,5 @@
 -- `session::holding::estimate_begins` meets its contract: a correction is counted, or the estimate is compared.
-use mathlib.Core.Path.{refl, sym, _∙_, ap}
+use mathlib.Core.Path.{_∙_, ap}
 use borrow.Author.Needs.{needs}
 use borrow.Author.Tests.{eq-eqb, ne-eqb}
 use Rattle.session.specs.Moves.{estimateOf}

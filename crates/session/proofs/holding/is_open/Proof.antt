@@ -1,6 +1,7 @@
 -- `session::holding::is_open` meets its contract: the tests, one axis after another; the axes that hold are ready for the state.
 use mathlib.Core.Path.{sym, _∙_}
 use Rattle.integers.specs.Tests.{stop, go-on, passed}
+use Rattle.session.proofs.Coordinates.{on-each}
 use Rattle.session.proofs.Rules.{as-tested, counts-are, ready}
 use Rattle.session.proofs.holding.is_open.Statement.{statement}
 use Rattle.session.proofs.holding.is_open.Tie as tie
@@ -45,9 +46,10 @@ state-holds-requires c κs =
     let d = e .before .before in
     ready (d .before .before .args .s) (record {
       counts = passed (d .before .counts-hold .ensures) (d .if1 .left);
-      on-x = passed (e .before .axis-holds .ensures) (e .if2 .left);
-      on-y = passed (f .before .axis-holds2 .ensures) (f .if3 .left);
-      on-z = passed (c .before .axis-holds3 .ensures) (c .if4 .left);
+      axes = on-each _
+          (passed (e .before .axis-holds .ensures) (e .if2 .left))
+          (passed (f .before .axis-holds2 .ensures) (f .if3 .left))
+          (passed (c .before .axis-holds3 .ensures) (c .if4 .left));
     })
 
 returns-5 : tie.Need-returns-5

@@ -1,9 +1,10 @@
 -- `session::points::point_change` meets its contract: the larger changes of two axes, twice.
+use mathlib.Core.Path.{sym, ap, _∙_}
 use Prim.Native.Nat.{max}
 use borrow.Author.Needs.{needs}
-use Rattle.axis.specs.Agreement.{changeOf}
+use Rattle.axis.specs.Agreement.{changeOf, sizes}
 use Rattle.axis.proofs.Agreement.{sizes-proper, larger-sizes}
-use Rattle.session.specs.Apart.{pointChange}
+use Rattle.session.proofs.Values.{change-by-axes}
 use Rattle.session.proofs.points.point_change.Statement.{statement}
 use Rattle.session.proofs.points.point_change.Tie as tie
 
@@ -19,7 +20,6 @@ larger-change-requires-2 c κs =
     )
 
 returns : tie.Need-returns
-unfolding pointChange
 returns c =
     let b = c .before in
     let d = b .before .before in
@@ -28,6 +28,7 @@ returns c =
     let z = changeOf (a .q .z) (a .before .z) in
     larger-sizes (changeOf (a .q .x) (a .before .x)) (λ kind. max (y kind) (z kind)) (c .larger-change2 .ensures) (d .before .change .ensures)
     (larger-sizes y z (b .larger-change .ensures) (d .change2 .ensures) (b .before .change3 .ensures))
+    ∙ ap sizes (λ i kind. sym (change-by-axes (a .q) (a .before) kind) i)
 
 pub point-change-spec : {M : Type 1} → statement M
 point-change-spec =

@@ -1,7 +1,8 @@
 -- `steps::corrects::correct_with` meets its contract: the point is in range or not.
 use mathlib.Core.Path.{_≡_, refl, sym, ap, _∙_}
 use mathlib.Core.Bool.{false}
-use Rattle.integers.specs.Tests.{firstOf, failed, passed}
+use Rattle.integers.specs.Tests.{failed, passed}
+use Rattle.rules.specs.Rules.{firstOf}
 use Rattle.ticks.specs.declared.WholeSample.{WholeSample}
 use Rattle.session.specs.declared.Point.{Point}
 use Rattle.session.specs.declared.Session.{Session}

@@ -4,7 +4,7 @@ use mathlib.Core.Bool.{true, false}
 use Prim.Native.Nat.{_+_}
 use borrow.Author.Needs.{needs}
 use borrow.Author.Tests.{le-leb, lt-leb}
-use Rattle.integers.specs.Tests.{firstOf}
+use Rattle.rules.specs.Rules.{firstOf}
 use Rattle.ticks.specs.declared.WholeSample.{WholeSample}
 use Rattle.session.specs.declared.Point.{Point}
 use Rattle.session.specs.declared.Session.{Session}

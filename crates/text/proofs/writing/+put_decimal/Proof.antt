@@ -6,7 +6,7 @@ use borrow.Author.Needs.{needs}
 use borrow.Fn.Kinds.{In}
 use borrow.Fn.PlainCycle.{Measures, is, falls, and}
 use lib.ListN.{length}
-use Rattle.text.proofs.Writes.{then}
+use Rattle.text.specs.Pieces.{then}
 use Rattle.text.specs.Digits.{decimal-small, decimal-more, length-more}
 use Rattle.text.proofs.writing.put_decimal.Reads as self
 use Rattle.text.proofs.writing.put_decimal.Kinds as kinds

@@ -8,7 +8,7 @@ use borrow.Fn.PlainCycle.{Measures, is, falls, and}
 use denote.Ref.{now}
 use Rattle.text.specs.Numbers.{hexDigit, hexDigits}
 use Rattle.text.specs.Digits.{length-hexDigits}
-use Rattle.text.proofs.Writes.{nothing, then}
+use Rattle.text.specs.Pieces.{nothing, then}
 use Rattle.text.proofs.writing.put_hex_digits.Reads as self
 use Rattle.text.proofs.writing.put_hex_digits.Kinds as kinds
 use Rattle.text.proofs.writing.+put_hex_digits.Lts-put_hex_digits as lts

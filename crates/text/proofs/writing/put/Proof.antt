@@ -1,7 +1,7 @@
 -- `text::writing::put` meets its contract.
 use borrow.Author.Needs.{needs}
 use denote.Ref.{now}
-use Rattle.text.proofs.Writes.{byte}
+use Rattle.text.specs.Pieces.{byte}
 use Rattle.text.proofs.writing.put.Statement.{statement}
 use Rattle.text.proofs.writing.put.Tie as tie
 

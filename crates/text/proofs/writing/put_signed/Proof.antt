@@ -13,7 +13,7 @@ use mir.Val.{SFits, toZ, ofZ}
 use mir.Facts.{toZ-ofZ}
 use Rattle.text.specs.Numbers.{signed, decimal}
 use Rattle.text.proofs.Signs.{negative-text, positive-text}
-use Rattle.text.proofs.Writes.{then}
+use Rattle.text.specs.Pieces.{then}
 use Rattle.text.proofs.writing.put_signed.Statement.{statement}
 use Rattle.text.proofs.writing.put_signed.Tie as tie
 

@@ -7,7 +7,7 @@ use denote.Ref.{now}
 use lib.ListN.{length, take}
 use lib.Seq.{take-all, take-suc, length-take-le}
 use Rattle.text.specs.Places.{Wrote}
-use Rattle.text.proofs.Writes.{nothing, then}
+use Rattle.text.specs.Pieces.{nothing, then}
 use Rattle.text.proofs.writing.put_word.Statement.{statement}
 use Rattle.text.proofs.writing.put_word.Tie as tie
 

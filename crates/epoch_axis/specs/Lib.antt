@@ -1,0 +1,2 @@
+-- What the contracts of `epoch_axis` cite.
+pub mod Formulas

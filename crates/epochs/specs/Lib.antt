@@ -1,2 +1,0 @@
--- What the contracts of `epochs` cite.
-pub mod Formulas
