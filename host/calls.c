@@ -56,17 +56,24 @@ void start_program(const char *path)
     from = fdopen(out[0], "r");
 }
 
-struct answer call(const char *line)
+/* Sends a line; what is answered goes to the place given, and the record after it nowhere. */
+static void exchange(const char *line, char answer[LINE_MOST])
 {
-    char answer[LINE_MOST], record[LINE_MOST];
-    struct answer a;
-    uint64_t bits[3];
-    int kind;
+    char record[LINE_MOST];
     alarm(WAIT_MOST);
     fprintf(to, "%s\n", line);
     fflush(to);
-    if (fgets(answer, sizeof answer, from) == NULL || fgets(record, sizeof record, from) == NULL)
+    if (fgets(answer, LINE_MOST, from) == NULL || fgets(record, sizeof record, from) == NULL)
         fail(1, "the program gives no answer", "");
+}
+
+struct answer call(const char *line)
+{
+    char answer[LINE_MOST];
+    struct answer a;
+    uint64_t bits[3];
+    int kind;
+    exchange(line, answer);
     /* Number, kind, and of each value the report, the third of its three words. */
     if (sscanf(answer, "%*s %d %d %*s %*s %" SCNx64 " %*s %*s %*s %*s %*s %" SCNx64
                " %*s %*s %*s %*s %*s %" SCNx64, &a.number, &kind,
@@ -75,6 +82,30 @@ struct answer call(const char *line)
     a.kind = (enum kind)kind;
     memcpy(a.position, bits, sizeof a.position);
     return a;
+}
+
+/* Words: the name, number and kind, six of the changes, then of each point 18, three for a value. */
+struct round call_round(const char *line)
+{
+    char answer[LINE_MOST];
+    struct round r = {0};
+    int at = 0;
+    exchange(line, answer);
+    for (char *word = strtok(answer, " \n"); word != NULL; word = strtok(NULL, " \n"), at++) {
+        int point = (at - 9) / 18, place = (at - 9) % 18;
+        if (at == 1)
+            r.number = atoi(word);
+        if (at == 2)
+            r.kind = (enum kind)atoi(word);
+        /* The report of a position: the third word of every other value. */
+        if (at >= 9 && point < POINTS_MOST && place % 6 == 2) {
+            uint64_t bits = strtoull(word, NULL, 16);
+            memcpy(&r.position[point][place / 6], &bits, sizeof bits);
+        }
+    }
+    if (at != 9 + 18 * POINTS_MOST)
+        fail(1, "no sense in the answer to ", line);
+    return r;
 }
 
 void add_float(char *line, double value)

@@ -45,6 +45,42 @@ void lost_by_opening(struct lost *l, int points, double position, double velocit
     l->second = position - series(cowell + 2, l->samples, points) + l->first;
 }
 
+/* Turns a series into its product with 1 - x, as far as it is kept. */
+static void step_back(double *coefficients, int points)
+{
+    for (int i = points - 1; i > 0; i--)
+        coefficients[i] -= coefficients[i - 1];
+}
+
+void lost_by_start(struct lost *l, int points, double position, double velocity,
+                   double places[PLACES])
+{
+    double c[PLACES], k[PLACES], of_position[PLACES] = {0}, of_velocity[PLACES] = {0};
+    int centre = (points - 1) / 2;
+    memcpy(c, adams + 1, sizeof c);
+    memcpy(k, cowell + 2, sizeof k);
+    for (int j = 0; j < points; j++) {
+        of_position[j] = series(k, l->samples, points);
+        of_velocity[j] = series(c, l->samples, points);
+        step_back(k, points);
+        step_back(c, points);
+    }
+    /* S1 and S2 at the epoch, then on to the newest point, then back over all points. */
+    double first = velocity - of_velocity[centre];
+    double second = position - of_position[centre] + first;
+    for (int j = centre - 1; j >= 0; j--) {
+        first += l->samples[j];
+        second += first;
+    }
+    l->first = first;
+    l->second = second;
+    for (int j = 0; j < points; j++) {
+        second -= first;
+        places[j] = second + of_position[j];
+        first -= l->samples[j];
+    }
+}
+
 double lost_of_prediction(const struct lost *l, int points)
 {
     return l->second + series(stormer + 2, l->samples, points);

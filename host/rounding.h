@@ -16,6 +16,12 @@ void prepare_coefficients(void);
 /* Sets the sums, from what the opening position, velocity and samples lost. */
 void lost_by_opening(struct lost *l, int points, double position, double velocity);
 
+/* The same for a start from an epoch at the centre of the points, from what its position and
+ * velocity and the samples lost. What the position of each point lost goes to places, the newest
+ * first. */
+void lost_by_start(struct lost *l, int points, double position, double velocity,
+                   double places[PLACES]);
+
 /* Of the predicted position, and of the one corrected with a sample that lost so much. */
 double lost_of_prediction(const struct lost *l, int points);
 double lost_of_correction(const struct lost *l, int points, double sample);

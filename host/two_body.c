@@ -1,6 +1,8 @@
 /* A host: steps a body about the Earth in a session of another program, and prints how far it
  * ends up from the exact orbit. Arguments are pairs of a name below and its value; `program` is
- * the path of the program, `rounding` says what the host does about rounding to whole ticks:
+ * the path of the program, `from` is `points` where the session is opened with known back points
+ * or `epoch` where it is started from one point at their centre, and `rounding` says what the host
+ * does about rounding to whole ticks:
  *   plain      nothing
  *   carried    what the samples lost goes into the next sample
  *   opening    as carried, and what the opening lost as well
@@ -21,6 +23,7 @@ static const char *const roundings[] = {"plain", "carried", "opening", "recovere
 
 static const char *program = "target/bin/replay";
 static enum rounding rounding = PLAIN;
+static bool from_epoch = false;
 static double perigee = 300, eccentricity = 0, inclination = 40, start = 0, days = 3;
 static double points = 9, step = 30, bits = 15, limit = 8;
 static double tolerance = 1048576, velocity_tolerance = 1048576;
@@ -78,6 +81,13 @@ static void set_rounding(const char *text)
     fail(2, "rounding is plain, carried, opening or recovered, not ", text);
 }
 
+static void set_from(const char *text)
+{
+    from_epoch = strcmp(text, "epoch") == 0;
+    if (!from_epoch && strcmp(text, "points") != 0)
+        fail(2, "from is points or epoch, not ", text);
+}
+
 static void read_arguments(int count, char **arguments)
 {
     for (int i = 1; i < count; i += 2) {
@@ -87,6 +97,8 @@ static void read_arguments(int count, char **arguments)
             program = arguments[i + 1];
         else if (strcmp(arguments[i], "rounding") == 0)
             set_rounding(arguments[i + 1]);
+        else if (strcmp(arguments[i], "from") == 0)
+            set_from(arguments[i + 1]);
         else
             set_number(arguments[i], arguments[i + 1]);
     }
@@ -134,28 +146,91 @@ static void sample_at(const double place[AXES], double sample[AXES])
     evaluations++;
 }
 
+/* Position and velocity of a point as words of a line, and what each lost. */
+struct given {
+    double position[AXES], velocity[AXES];
+};
+
+/* Begins the line of an opening or a first round with its settings and the exact point at a time. */
+static struct given add_point(char *line, const char *name, long double time)
+{
+    struct given lost_here;
+    struct state now = state_at(&orbit, time);
+    sprintf(line, "%s %.0f %.0f %.0f %.0f", name, points, tolerance, velocity_tolerance, limit);
+    for (int i = 0; i < AXES; i++)
+        lost_here.position[i] = add_whole(line, now.position[i] / tick);
+    for (int i = 0; i < AXES; i++)
+        lost_here.velocity[i] = add_whole(line, now.velocity[i] * step / tick);
+    return lost_here;
+}
+
+/* Adds the sample at a place, so many points before the newest. */
+static void add_back_sample(char *line, const double place[AXES], int back)
+{
+    double wanted[AXES];
+    sample_at(place, wanted);
+    for (int i = 0; i < AXES; i++)
+        lost[i].samples[back] = wanted[i] - add_sample(line, wanted[i]);
+}
+
+/* Adds the samples of all points as the exact orbit has them, the oldest first. */
+static void add_exact_samples(char *line, long double newest)
+{
+    double place[AXES];
+    for (int back = (int)points - 1; back >= 0; back--) {
+        struct state then = state_at(&orbit, newest - back * (long double)step);
+        for (int i = 0; i < AXES; i++)
+            place[i] = (double)(then.position[i] / tick);
+        add_back_sample(line, place, back);
+    }
+}
+
 static void open_session(long double begin)
 {
     char line[LINE_MOST];
-    double position[AXES], velocity[AXES], place[AXES], wanted[AXES];
-    struct state now = state_at(&orbit, begin);
-    sprintf(line, "open %.0f %.0f %.0f %.0f", points, tolerance, velocity_tolerance, limit);
-    for (int i = 0; i < AXES; i++)
-        position[i] = add_whole(line, now.position[i] / tick);
-    for (int i = 0; i < AXES; i++)
-        velocity[i] = add_whole(line, now.velocity[i] * step / tick);
-    for (int back = (int)points - 1; back >= 0; back--) {
-        now = state_at(&orbit, begin - back * (long double)step);
-        for (int i = 0; i < AXES; i++)
-            place[i] = (double)(now.position[i] / tick);
-        sample_at(place, wanted);
-        for (int i = 0; i < AXES; i++)
-            lost[i].samples[back] = wanted[i] - add_sample(line, wanted[i]);
-    }
+    struct given given = add_point(line, "open", begin);
+    add_exact_samples(line, begin);
     answered(call(line), 0);
     if (rounding >= OPENING)
         for (int i = 0; i < AXES; i++)
-            lost_by_opening(&lost[i], (int)points, position[i], velocity[i]);
+            lost_by_opening(&lost[i], (int)points, given.position[i], given.velocity[i]);
+}
+
+/* Makes a round; its number and kind are looked at as those of a call. */
+static struct round round_of(const char *line)
+{
+    struct round r = call_round(line);
+    answered((struct answer){.number = r.number}, 0);
+    return r;
+}
+
+/* Starts at an epoch, with the samples of two-body motion as a first guess, and refines until the
+ * session opens; the time of its newest point. */
+static long double start_session(long double epoch)
+{
+    char line[LINE_MOST];
+    double missing[AXES][PLACES] = {{0}}, place[AXES];
+    int last = (int)points - 1;
+    long double newest = epoch + last / 2 * (long double)step;
+    struct given given = add_point(line, "start", epoch);
+    add_exact_samples(line, newest);
+    struct round r = round_of(line);
+    for (;;) {
+        if (rounding >= OPENING)
+            for (int i = 0; i < AXES; i++)
+                lost_by_start(&lost[i], (int)points, given.position[i], given.velocity[i],
+                              missing[i]);
+        if (r.kind == OPENED)
+            return newest;
+        strcpy(line, "refine");
+        for (int back = last; back >= 0; back--) {
+            for (int i = 0; i < AXES; i++)
+                place[i] = r.position[last - back][i] +
+                           (rounding == RECOVERED ? missing[i][back] : 0);
+            add_back_sample(line, place, back);
+        }
+        r = round_of(line);
+    }
 }
 
 /* Steps to the next point: predict, then correct until it is accepted. */
@@ -204,7 +279,11 @@ int main(int count, char **arguments)
     long double begin = start * period(&orbit);
     long last = lround(days * 86400 / step);
     double worst = 0, squares = 0, place[AXES];
-    open_session(begin);
+    if (from_epoch)
+        begin = start_session(begin);
+    else
+        open_session(begin);
+    evaluations = 0;
     for (long point = 1; point <= last; point++) {
         step_on(point, place);
         struct state exact = state_at(&orbit, begin + point * (long double)step);
@@ -217,6 +296,6 @@ int main(int count, char **arguments)
                    (double)(days * 86400 / period(&orbit));
     printf("worst %.4g m, root mean square %.4g m, ratio %.3g, %ld evaluations, "
            "samples to 2^%.2f, positions to 2^%.2f ticks\n", worst, mean, ratio,
-           evaluations - (long)points, log2(largest_sample), log2(largest_position));
+           evaluations, log2(largest_sample), log2(largest_position));
     return 0;
 }

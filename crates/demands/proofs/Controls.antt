@@ -25,7 +25,7 @@ use Rattle.demands.specs.Refusals.{Within, correctTable, withdrawTable}
 use Rattle.demands.specs.ClosedForm.{origin}
 use Rattle.demands.specs.Demands.{sample, secondDifference, SamePoint, Agree}
 use Rattle.demands.specs.BadVersions.{refusing}
-use Rattle.demands.specs.Theorems.{Alike, OfOpenings, refused7}
+use Rattle.demands.specs.Theorems.{Alike, refused7}
 use Rattle.demands.proofs.Theorems.{our-calls, any-calls}
 use Rattle.demands.proofs.Rounds.{closed-not-starting}
 use Rattle.demands.proofs.Opens.{number-is, open-begins}
@@ -47,7 +47,7 @@ seven e = omega arith
 -- ---- demand 1: an open refused 1, H10, H6, and a correction and a withdrawal that nothing awaits
 
 closed : start none ≡ closedSession
-closed = our-calls .demand1 .closed none (given (number-is none ∙ computed .refused) (λ e. omega arith))
+closed = our-calls .demand1 .closed (start wide) none (given (number-is none ∙ computed .refused) (λ e. omega arith))
 
 unpredicted : predictOf (waiting wide) .session ≡ waiting wide
 unpredicted = our-calls .demand1 .unpredicted (waiting wide) (given (predict-number (waiting wide) ∙ computed .unpredicted) seven)
@@ -91,15 +91,12 @@ in-ticks = our-calls .inTicks (origin wide) (start wide) begins (round (round []
 alike : (position velocity limit : ℕ) → Alike wide (h3 1 position velocity limit)
 alike position velocity limit = record { points = refl; point = refl; samples = λ k. refl }
 
-of-openings : OfOpenings ours
-of-openings = any-calls .openings ours (our-calls .demand3) (our-calls .counts)
-
 same : SamePoint ours settledOnce (after ours (start narrow) twice)
-same = of-openings .same wide narrow (computed .opened) (computed .narrowly) (alike 0 widest 2) (round []) twice (computed .sampleWide ∙ sym (computed .sampleNarrow))
+same = our-calls .ofOpenings .same closedSession closedSession wide narrow (computed .opened) (computed .narrowly) (alike 0 widest 2) (round []) twice (computed .sampleWide ∙ sym (computed .sampleNarrow))
 
 -- a velocity tolerance that asked for a second correction leaves it at the same point
 same-turned : SamePoint ours settledOnce (after ours (start turning) twice)
-same-turned = of-openings .same wide turning (computed .opened) (computed .turningly) (alike widest 5 2) (round []) twice (computed .sampleWide ∙ sym (computed .sampleTurning))
+same-turned = our-calls .ofOpenings .same closedSession closedSession wide turning (computed .opened) (computed .turningly) (alike widest 5 2) (round []) twice (computed .sampleWide ∙ sym (computed .sampleTurning))
 
 same-next : predictOf settledOnce .answer ≡ predictOf (after ours (start narrow) twice) .answer
 same-next =
@@ -109,10 +106,10 @@ same-next =
 -- ---- the counts: two points in H7, one correction in H5, none where H4 is settled
 
 two-points : after ours (start wide) (round (round [])) .accepted ≡ 2
-two-points = of-openings .accepted wide (computed .opened) (round (round [])) ∙ computed .points
+two-points = our-calls .ofOpenings .accepted closedSession wide (computed .opened) (round (round [])) ∙ computed .points
 
 one-correction : after ours (start narrow) (round []) .corrections ≡ 1
-one-correction = of-openings .awaiting narrow (computed .narrowly) (round []) (computed .stillAwaiting) ∙ computed .oneAgain
+one-correction = our-calls .ofOpenings .awaiting closedSession narrow (computed .narrowly) (round []) (computed .stillAwaiting) ∙ computed .oneAgain
 
 no-correction : settledOnce .corrections ≡ 0
 no-correction = our-calls .counts .settled (start wide) (begins .held) (round []) (resting settledOnce (computed .settledWide) .state)
@@ -143,7 +140,7 @@ unfolding tooWide
 counts-as-closed = our-calls .badSettings tooWide (λ h. omega (arith, h .0 .1)) predict
 
 none-accepted : entries (history ours (start none) (round [])) ≡ []
-none-accepted = our-calls .unopened none (given (number-is none ∙ computed .refused) (λ e. omega arith)) (round []) .1
+none-accepted = our-calls .unopened (start wide) none (given (number-is none ∙ computed .refused) (λ e. omega arith)) (round []) .1
 
 newest-sample : ticksIn (roundedOf (getD (wide .floats) 0 Float.nan)) ≡ pos 12
 newest-sample = sym (any-calls .openingSample wide onX 0 Float.nan (omega arith) refl) ∙ ap (λ xs. at xs 0) (computed .samples)
@@ -153,4 +150,4 @@ only-ours = any-calls .unique ours ours (our-calls .demand1) (our-calls .demand2
 
 -- not every two agree
 differ : ¬ Agree ours refusing
-differ a = let e = sym (computed .opened) ∙ ap (λ r. r .answer) (a .opens wide) in clash (cc)
+differ a = let e = sym (computed .opened) ∙ ap (λ r. r .answer) (a .opens closedSession wide) in clash (cc)

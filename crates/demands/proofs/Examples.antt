@@ -42,7 +42,7 @@ use Rattle.session.specs.Coordinates.{onX}
 use Rattle.demands.specs.Histories.{ours, Call, predict, correct, after, history, Entry, entries, samplesOf, agains}
 use Rattle.demands.specs.ClosedForm.{openingSamples, origin, firstSum, secondBefore, positionAt, nextPosition}
 use Rattle.demands.specs.Demands.{sample, secondDifference, firstDifference}
-use Rattle.demands.specs.BadVersions.{predictingZero, repeating, inventingCorrections, ignoringVelocities}
+use Rattle.demands.specs.BadVersions.{predictingZero, repeating, inventingCorrections, ignoringVelocities, keeping}
 
 -- ---- the sessions
 
@@ -85,7 +85,7 @@ abbrev pub turningOnce : Request
 turningOnce = h3 1 widest 5 1
 
 abbrev pub start : Request → Session
-start r = ours .opens r .session
+start r = ours .opens closedSession r .session
 
 abbrev pub a24 : Sample
 a24 = record { x = float (pos 24); y = float (pos 0); z = float (pos 0) }
@@ -138,13 +138,16 @@ stateNumber Starting = 3
 pub record Computed : Type 0 where
   -- openings
   pub opens : openRefusal wide ≡ 0
-  pub opened : ours .opens wide .answer ≡ O.Opened
-  pub narrowly : ours .opens narrow .answer ≡ O.Opened
-  pub turningly : ours .opens turning .answer ≡ O.Opened
+  pub opened : ours .opens closedSession wide .answer ≡ O.Opened
+  pub narrowly : ours .opens closedSession narrow .answer ≡ O.Opened
+  pub turningly : ours .opens closedSession turning .answer ≡ O.Opened
   pub refused : openRefusal none ≡ 1
   pub samples : openingSamples wide onX ≡ pos 12 ∷ []
   pub opening : origin wide .position onX ≡ pos (1000 * D)
   pub stateFirst : stateNumber (start wide .state) ≡ 1
+  pub keptOpen : stateNumber (keeping .opens (start wide) none .session .state) ≡ 1
+  pub keptClosed : stateNumber (keeping .opens closedSession none .session .state) ≡ 0
+  pub closedFirst : stateNumber (closedSession .state) ≡ 0
   pub accepted0 : start wide .accepted ≡ 0
   pub accepted0Narrow : start narrow .accepted ≡ 0
   -- H3, H4: a prediction, and its withdrawal
@@ -208,6 +211,9 @@ computed =
       samples = refl;
       opening = refl;
       stateFirst = refl;
+      keptOpen = refl;
+      keptClosed = refl;
+      closedFirst = refl;
       accepted0 = refl;
       accepted0Narrow = refl;
       predicts = refl;

@@ -23,21 +23,21 @@ use Rattle.demands.specs.Histories.{Implementation, ours, Call, predict,
 use Rattle.demands.specs.Refusals.{Settings}
 use Rattle.demands.specs.ClosedForm.{Begins, originAt, origin, startOrigin}
 use Rattle.demands.specs.Demands.{openNumber, startNumber, Demand3, Counts}
-use Rattle.demands.specs.Theorems.{Alike, OfOpenings, OfStarts, refused7, Plain}
+use Rattle.demands.specs.Theorems.{Alike, OfOpenings, OfStarts, refused7, Plain, Replaces}
 use Rattle.demands.proofs.Rounds.{not-open, not-starting, closed-not-starting, unopen, unstarting, first-closes}
 use Rattle.demands.proofs.Ours.{demand1}
 
 -- ---- any implementation
 
-pub anew : (I : Implementation) (s : Session) (r : Request) (calls : List Call) (earlier : List Act) →
-    lived I s (map calling calls ++ opening r ∷ earlier) ≡ after I (I .opens r .session) calls
-anew I s r [] earlier = refl
-anew I s r (call ∷ calls) earlier = ap (λ t. step I t call) (anew I s r calls earlier)
+pub anew : (I : Implementation) → Replaces I → (s t : Session) (r : Request) (calls : List Call) (earlier : List Act) →
+    lived I s (map calling calls ++ opening r ∷ earlier) ≡ after I (I .opens t r .session) calls
+anew I h s t r [] earlier = ap (λ a. a .session) (h .opens (lived I s earlier) t r)
+anew I h s t r (call ∷ calls) earlier = ap (λ t. step I t call) (anew I h s t r calls earlier)
 
-pub anew-start : (I : Implementation) (s : Session) (r : Request) (calls : List Call) (earlier : List Act) →
-    lived I s (map calling calls ++ beginning r ∷ earlier) ≡ after I (I .starts r .session) calls
-anew-start I s r [] earlier = refl
-anew-start I s r (call ∷ calls) earlier = ap (λ t. step I t call) (anew-start I s r calls earlier)
+pub anew-start : (I : Implementation) → Replaces I → (s t : Session) (r : Request) (calls : List Call) (earlier : List Act) →
+    lived I s (map calling calls ++ beginning r ∷ earlier) ≡ after I (I .starts t r .session) calls
+anew-start I h s t r [] earlier = ap (λ a. a .session) (h .starts (lived I s earlier) t r)
+anew-start I h s t r (call ∷ calls) earlier = ap (λ t. step I t call) (anew-start I h s t r calls earlier)
 
 -- requests alike have one origin
 same-origin : (q r : Request) → Alike q r → origin q ≡ origin r
@@ -46,15 +46,16 @@ same-origin q r a = λ i. originAt (a .points i) (exactPoint (a .point i)) (λ k
 pub of-openings : (I : Implementation) → Demand3 I → Counts I → OfOpenings I
 of-openings I d c =
     record {
-      unsummed = λ r e calls. d .unsummed (origin r) (I .opens r .session) (d .begins r e) calls;
-      same = λ q r e f a calls others g.
-          d .same (origin q) (I .opens q .session) (I .opens r .session) (d .begins q e) (subst (λ o. Begins o (I .opens r .session)) (sym (same-origin q r a)) (d .begins r f)) calls others g;
-      accepted = λ r e calls.
-          c .accepted (I .opens r .session) (d .begins r e .held) calls
-          ∙ ap (λ n. n + length (entries (history I (I .opens r .session) calls))) (c .opened r e .0)
+      unsummed = λ s r e calls. d .unsummed (origin r) (I .opens s r .session) (d .begins s r e) calls;
+      same = λ s t q r e f a calls others g.
+          d .same (origin q) (I .opens s q .session) (I .opens t r .session) (d .begins s q e)
+          (subst (λ o. Begins o (I .opens t r .session)) (sym (same-origin q r a)) (d .begins t r f)) calls others g;
+      accepted = λ s r e calls.
+          c .accepted (I .opens s r .session) (d .begins s r e .held) calls
+          ∙ ap (λ n. n + length (entries (history I (I .opens s r .session) calls))) (c .opened s r e .0)
           ∙ zero-add _;
-      awaiting = λ r e calls w.
-          c .awaiting (I .opens r .session) (d .begins r e .held) calls w ∙ ap (λ n. agains n (history I (I .opens r .session) calls)) (c .opened r e .1);
+      awaiting = λ s r e calls w.
+          c .awaiting (I .opens s r .session) (d .begins s r e .held) calls w ∙ ap (λ n. agains n (history I (I .opens s r .session) calls)) (c .opened s r e .1);
     }
 
 pub of-starts : (I : Implementation) → Demand3 I → Counts I → OfStarts I
@@ -68,8 +69,9 @@ of-starts I d c =
       awaiting = λ s floats e calls w.
           c .awaiting (I .refines s floats .session) (d .started s floats e .held) calls w
           ∙ ap (λ n. agains n (history I (I .refines s floats .session) calls)) (c .openedRound s floats e .1);
-      same = λ s floats r e f a calls others g.
-          d .same (startOrigin s floats) (I .refines s floats .session) (I .opens r .session) (d .started s floats e) (subst (λ o. Begins o (I .opens r .session)) (sym a) (d .begins r f)) calls others g;
+      same = λ s t floats r e f a calls others g.
+          d .same (startOrigin s floats) (I .refines s floats .session) (I .opens t r .session) (d .started s floats e)
+          (subst (λ o. Begins o (I .opens t r .session)) (sym a) (d .begins t r f)) calls others g;
       sameStarts = λ s t xs ys e f a calls others g.
           d .same (startOrigin s xs) (I .refines s xs .session) (I .refines t ys .session) (d .started s xs e) (subst (λ o. Begins o (I .refines t ys .session)) (sym a) (d .started t ys f)) calls others g;
     }
@@ -118,13 +120,13 @@ still-closed s e calls = (
   ap (λ s. entries (history ours s calls)) e ∙ accepts-none closedSession closed-fails closed-not-starting calls,
 )
 
-pub unopened : (r : Request) → NotZero (openNumber ours r) → (calls : List Call) →
-    (after ours (ours .opens r .session) calls ≡ closedSession) × (entries (history ours (ours .opens r .session) calls) ≡ [])
-unopened r f = still-closed (ours .opens r .session) (demand1 .closed r f)
+pub unopened : (s : Session) (r : Request) → NotZero (openNumber ours s r) → (calls : List Call) →
+    (after ours (ours .opens s r .session) calls ≡ closedSession) × (entries (history ours (ours .opens s r .session) calls) ≡ [])
+unopened s r f = still-closed (ours .opens s r .session) (demand1 .closed s r f)
 
-pub unstarted : (r : Request) → NotZero (startNumber ours r) → (calls : List Call) →
-    (after ours (ours .starts r .session) calls ≡ closedSession) × (entries (history ours (ours .starts r .session) calls) ≡ [])
-unstarted r f = still-closed (ours .starts r .session) (first-closes r f)
+pub unstarted : (s : Session) (r : Request) → NotZero (startNumber ours s r) → (calls : List Call) →
+    (after ours (ours .starts s r .session) calls ≡ closedSession) × (entries (history ours (ours .starts s r .session) calls) ≡ [])
+unstarted s r f = still-closed (ours .starts s r .session) (first-closes r f)
 
 -- ---- a starting record, and an open one
 

@@ -23,7 +23,6 @@ use Rattle.steps.proofs.Left.{open-settles}
 use Rattle.steps.proofs.Refusals.{opened-range}
 use Rattle.demands.specs.Coordinates.{positionOf, velocityOf}
 use Rattle.session.specs.Coordinates.{Coordinate, onX, onY, onZ, axisOf}
-use Rattle.demands.specs.Histories.{ours}
 use Rattle.demands.specs.ClosedForm.{Begins, place, openingSamples, origin}
 
 module _ (r : Request) where
@@ -31,18 +30,18 @@ module _ (r : Request) where
   session = openedWith (r .points) (r .tolerances) (r .limit) (exactPoint (r .point)) (r .floats)
 
   -- the answer's number is the refusal's
-  pub number-is : openingAnswer (ours .opens r .answer) .number ≡ openRefusal r
+  pub number-is : openingAnswer (openOf r .answer) .number ≡ openRefusal r
   number-is = ap (λ a. a .number) (open-answers r)
 
-  module _ (e : ours .opens r .answer ≡ O.Opened) where
+  module _ (e : openOf r .answer ≡ O.Opened) where
     not-refused : openRefusal r ≡ 0
     not-refused = sym number-is ∙ ap (λ a. openingAnswer a .number) e
 
-    opened : ours .opens r .session ≡ session
+    opened : openOf r .session ≡ session
     unfolding openOf
     opened = ap (λ n. openBy n r .session) not-refused
 
-    present : presentPoint (ours .opens r .session) ≡ exactPoint (r .point)
+    present : presentPoint (openOf r .session) ≡ exactPoint (r .point)
     unfolding openedWith
     present =
         ap presentPoint opened
@@ -54,18 +53,18 @@ module _ (r : Request) where
     samples-are onY = refl
     samples-are onZ = refl
 
-    pub open-begins : Begins (origin r) (ours .opens r .session)
+    pub open-begins : Begins (origin r) (openOf r .session)
     unfolding openedWith openedSession
     open-begins =
         record {
-          held = settled-holds (ours .opens r .session) (open-settles r not-refused);
+          held = settled-holds (openOf r .session) (open-settles r not-refused);
           points = ap (λ s. s .points) opened;
           position = λ k. ap (positionOf k) present;
           velocity = λ k. ap (velocityOf k) present;
           samples = λ k i l. ap (λ s. at (axisOf k s .samples) i) opened ∙ ap (λ xs. at xs i) (samples-are k) ∙ at-taken (r .points) (9 - r .points) (openingSamples r k) i l;
         }
 
-    pub open-counts : (ours .opens r .session .accepted ≡ 0) × (ours .opens r .session .corrections ≡ 0)
+    pub open-counts : (openOf r .session .accepted ≡ 0) × (openOf r .session .corrections ≡ 0)
     unfolding openedWith openedSession
     open-counts = (ap (λ s. s .accepted) opened, ap (λ s. s .corrections) opened)
 

@@ -47,7 +47,7 @@ withdraw-number s = ap (λ a. a .number) (withdraw-answers s)
 
 -- ---- a refused round has no points
 
-blank-start : (r : Request) → NotZero (startRefusal r) → ours .starts r .answer .track ≡ noPoints
+blank-start : (r : Request) → NotZero (startRefusal r) → startOf r .answer .track ≡ noPoints
 unfolding startOf
 blank-start r f = ap (λ a. a .answer .track) (start-refuses (r .tolerances) (r .limit) (exactPoint (r .point)) (firstRound r) (startRefusal r) f)
 
@@ -66,21 +66,21 @@ exactly rs {m} {n} e d h = subst (Exactly rs) (sym e) (first-exactly rs n d h)
 pub demand1 : Demand1 ours
 demand1 =
     record {
-      opens = λ r. exactly (openTable r) (number-is r) refl (open-first r);
+      opens = λ s r. exactly (openTable r) (number-is r) refl (open-first r);
       predicts = λ s. exactly (predictTable s) (predict-number s) refl (predict-first s);
       corrects = λ s a. exactly (correctTable s a) (correct-number s a) refl (correct-first s a);
       withdraws = λ s. exactly (withdrawTable s) (withdraw-number s) refl (withdraw-first s);
-      closed = λ r f. open-closes r (λ e. f (number-is r ∙ e));
+      closed = λ s r f. open-closes r (λ e. f (number-is r ∙ e));
       unpredicted = λ s f. predict-untouched s (λ e. f (predict-number s ∙ e));
       settled = λ s a e. correct-ends s a (sym (correct-number s a) ∙ e);
       uncorrected = λ s a f g. correct-untouched s a (λ e. f (correct-number s a ∙ e)) (λ e. g (correct-number s a ∙ e));
       unwithdrawn = λ s f. withdraw-untouched s (λ e. f (withdraw-number s ∙ e));
-      starts = λ r. subst (First (startTable r)) (sym (start-number r)) (start-first r);
+      starts = λ s r. subst (First (startTable r)) (sym (start-number r)) (start-first r);
       refines = λ s floats. exactly (refineTable s floats) (refine-number s floats) refl (refine-first s floats);
-      unstarted = λ r f. start-closes r (λ e. f (start-number r ∙ e));
+      unstarted = λ s r f. start-closes r (λ e. f (start-number r ∙ e));
       ended = λ s floats e. refine-closes s floats (sym (refine-number s floats) ∙ e);
       unrefined = λ s floats f g. refine-untouched s floats (λ e. f (refine-number s floats ∙ e)) (λ e. g (refine-number s floats ∙ e));
-      blankStart = λ r f. blank-start r (λ e. f (start-number r ∙ e));
+      blankStart = λ s r f. blank-start r (λ e. f (start-number r ∙ e));
       blankRound = λ s floats f. blank-round s floats (λ e. f (refine-number s floats ∙ e));
     }
 
@@ -116,12 +116,12 @@ pub demand2 : Demand2 ours
 unfolding openOf predictOf withdrawOf startOf
 demand2 =
     record {
-      opens = λ r u. ap (λ n. openBy n r) (open-none r .1 u);
+      opens = λ s r u. ap (λ n. openBy n r) (open-none r .1 u);
       predicts = λ s u. ap (λ n. predictBy n s) (predict-none s .1 u);
       accepts = λ s a u w. judge s a true u (agreement s (correctedPoint s (wholeOf a)) .yes .1 w);
       repeats = λ s a u w. judge s a false u (agreement s (correctedPoint s (wholeOf a)) .no .1 w);
       withdraws = λ s u. ap (λ n. withdrawBy n s) (withdraw-none s .1 u);
-      starts = λ r u. ap (λ n. startBy n (r .tolerances) (r .limit) (exactPoint (r .point)) (firstRound r)) (start-none r .1 u);
+      starts = λ s r u. ap (λ n. startBy n (r .tolerances) (r .limit) (exactPoint (r .point)) (firstRound r)) (start-none r .1 u);
       opensRound = λ s floats u w. judge-round s floats true u (rounds-apart s (laterRound s floats) .yes .1 w);
       asksMore = λ s floats u w. judge-round s floats false u (rounds-apart s (laterRound s floats) .no .1 w);
     }
@@ -132,14 +132,14 @@ pub formulas : Formulas ours
 formulas = record { told = λ o s b calls. invariant o s b calls .told }
 
 pub demand3 : Demand3 ours
-demand3 = record { begins = open-begins; started = round-begins; unsummed = unsummed; same = same-point }
+demand3 = record { begins = λ s. open-begins; started = round-begins; unsummed = unsummed; same = same-point }
 
 pub counts : Counts ours
 counts =
     record {
-      opened = open-counts;
+      opened = λ s. open-counts;
       openedRound = round-counts;
-      rounds = rounds-counted;
+      rounds = λ s. rounds-counted;
       accepted = λ s h calls. invariant (originOf s) s (open-begins-itself s h) calls .accepted;
       awaiting = λ s h calls. invariant (originOf s) s (open-begins-itself s h) calls .waiting;
       settled = λ s h calls. invariant (originOf s) s (open-begins-itself s h) calls .resting;
@@ -148,8 +148,8 @@ counts =
 pub leave : Leaves ours
 leave =
     record {
-      opens = open-leaves;
-      starts = first-leaves;
+      opens = λ s. open-leaves;
+      starts = λ s. first-leaves;
       steps = leaves;
       held = holds-after;
       stands = λ o s b calls. invariant o s b calls .stands;

@@ -20,8 +20,8 @@ use Rattle.demands.specs.Histories.{ours, predict, refine, step, event, 
 use Rattle.demands.specs.Refusals.{RoundWithin, refineTable}
 use Rattle.demands.specs.ClosedForm.{originAt, place, openingSamples, origin, startOrigin}
 use Rattle.demands.specs.Demands.{Unsummed, SamePoint}
-use Rattle.demands.specs.Theorems.{OfStarts, refused7}
-use Rattle.demands.proofs.Theorems.{our-calls, any-calls}
+use Rattle.demands.specs.Theorems.{refused7}
+use Rattle.demands.proofs.Theorems.{our-calls}
 use Rattle.demands.proofs.Rounds.{start-number, refine-number}
 use Rattle.demands.proofs.RoundsTurnedDown.{unrefused-same, unrefused-other, not-within}
 use Rattle.demands.proofs.Conditions.{rounds-apart}
@@ -36,11 +36,11 @@ opened = refineOf begun (force (pos 12)) .session
 
 -- ---- demand 1: an even p, a last round that moved, and a round without samples
 
-closed : ours .starts even .session ≡ closedSession
-closed = our-calls .demand1 .unstarted even (given (start-number even ∙ computed .tenth) (λ e. omega arith))
+closed : ours .starts closedSession even .session ≡ closedSession
+closed = our-calls .demand1 .unstarted closedSession even (given (start-number even ∙ computed .tenth) (λ e. omega arith))
 
-no-points : ours .starts even .answer .track ≡ noPoints
-no-points = our-calls .demand1 .blankStart even (given (start-number even ∙ computed .tenth) (λ e. omega arith))
+no-points : ours .starts closedSession even .answer .track ≡ noPoints
+no-points = our-calls .demand1 .blankStart closedSession even (given (start-number even ∙ computed .tenth) (λ e. omega arith))
 
 ended : refineOf again (force (pos 12)) .session ≡ closedSession
 ended = our-calls .demand1 .ended again (force (pos 12)) (refine-number again (force (pos 12)) ∙ computed .eighth)
@@ -63,29 +63,26 @@ asks-more = (unrefused-other, not-within)
 
 -- ---- demand 3 and the counts: it begins where an open at its newest point does, with no point accepted, and one round was counted
 
-of-starts : OfStarts ours
-of-starts = any-calls .starts ours (our-calls .demand3) (our-calls .counts)
-
 unsummed : Unsummed (startOrigin begun (force (pos 12))) (entries (history ours opened (predict ∷ [])))
-unsummed = of-starts .unsummed begun (force (pos 12)) (computed .opens) (predict ∷ [])
+unsummed = our-calls .ofStarts .unsummed begun (force (pos 12)) (computed .opens) (predict ∷ [])
 
 none-accepted : opened .accepted ≡ 0
-none-accepted = of-starts .accepted begun (force (pos 12)) (computed .opens) []
+none-accepted = our-calls .ofStarts .accepted begun (force (pos 12)) (computed .opens) []
 
 no-correction : after ours opened (predict ∷ []) .corrections ≡ 0
-no-correction = of-starts .awaiting begun (force (pos 12)) (computed .opens) (predict ∷ []) (computed .awaits) ∙ computed .noAgains
+no-correction = our-calls .ofStarts .awaiting begun (force (pos 12)) (computed .opens) (predict ∷ []) (computed .awaits) ∙ computed .noAgains
 
 same-origin : startOrigin begun (force (pos 12)) ≡ origin newest
 same-origin =
     ap (λ p. originAt p (earlierPoint (laterRound begun (force (pos 12))) 0) (λ k. axisSamples p (place k) (force (pos 12)))) (computed .points)
     ∙ ap (λ q. originAt 3 q (openingSamples newest)) (computed .point0)
 
-same : SamePoint ours opened (ours .opens newest .session)
-same = of-starts .same begun (force (pos 12)) newest (computed .opens) (computed .opened) same-origin [] [] refl
+same : SamePoint ours opened (ours .opens closedSession newest .session)
+same = our-calls .ofStarts .same begun closedSession (force (pos 12)) newest (computed .opens) (computed .opened) same-origin [] [] refl
 
 -- once a round asked for more
 one-round : again .corrections ≡ 1
-one-round = our-calls .counts .rounds first (start-number first ∙ computed .unrefused) moved (computed .againStarting) ∙ computed .once
+one-round = our-calls .counts .rounds closedSession first (start-number first ∙ computed .unrefused) moved (computed .againStarting) ∙ computed .once
 
 -- ---- a starting record, an open one, and a first round that was refused
 
@@ -101,5 +98,5 @@ holding = our-calls .demand3 .started begun (force (pos 12)) (computed .opens) .
 goes-on : (step ours opened (refine []) ≡ opened) × (event ours opened (refine []) ≡ refused7 (refine []))
 goes-on = our-calls .goesOn opened holding []
 
-unstarted : after ours (ours .starts even .session) moved ≡ closedSession
-unstarted = our-calls .unstarted even (given (start-number even ∙ computed .tenth) (λ e. omega arith)) moved .0
+unstarted : after ours (ours .starts closedSession even .session) moved ≡ closedSession
+unstarted = our-calls .unstarted closedSession even (given (start-number even ∙ computed .tenth) (λ e. omega arith)) moved .0

@@ -43,7 +43,7 @@ use Rattle.epoch_steps.specs.Steps.{startOf, refineOf}
 use Rattle.demands.specs.Coordinates.{positionOf}
 use Rattle.session.specs.Coordinates.{onX}
 use Rattle.demands.specs.Histories.{ours, Call, predict, refine, after, history, agains, mores}
-use Rattle.demands.specs.BadVersions.{openingAtOnce, openingAnyhow, neverCounting, ignoringVelocitiesOfRounds}
+use Rattle.demands.specs.BadVersions.{openingAtOnce, openingAnyhow, neverCounting, ignoringVelocitiesOfRounds, keepingStarts}
 use Rattle.demands.proofs.Examples.{stateNumber}
 
 -- ---- the session
@@ -77,7 +77,7 @@ newest = requested 3 strict (pos 1016) (pos 22)
 
 -- after the first round, and after a later one that moved
 abbrev pub begun : Session
-begun = ours .starts first .session
+begun = ours .starts closedSession first .session
 
 abbrev pub moved : List Call
 moved = refine (force (pos 24)) ∷ []
@@ -87,7 +87,7 @@ again = after ours begun moved
 
 -- the other way round: the velocities of the outer points move by 12 ticks and may by 11
 abbrev pub turning : Session
-turning = ours .starts (requested 3 (record { position = 1048576; velocity = 11 }) (pos 1000) (pos 10)) .session
+turning = ours .starts closedSession (requested 3 (record { position = 1048576; velocity = 11 }) (pos 1000) (pos 10)) .session
 
 -- ---- what the definitions compute there
 
@@ -110,7 +110,7 @@ pub record Computed : Type 0 where
   pub second : refineRefusal begun [] ≡ 2
   -- nothing moved there, and the point where it opens is whole
   pub agreed : roundsAgree (begun .tolerances) (laterRound begun (force (pos 12))) (heldRound begun) ≡ true
-  pub opened : ours .opens newest .answer ≡ O.Opened
+  pub opened : ours .opens closedSession newest .answer ≡ O.Opened
   pub point0 : earlierPoint (laterRound begun (force (pos 12))) 0 ≡ exactPoint (newest .point)
   pub points : begun .points ≡ 3
   pub tolerances : begun .tolerances ≡ strict
@@ -120,12 +120,13 @@ pub record Computed : Type 0 where
   -- a later round of 24 moves the newest point by 6 ticks
   pub far : natAbs (positionOf onX (earlierPoint (laterRound begun (force (pos 24))) 0) -ℤ positionOf onX (earlierPoint (heldRound begun) 0)) ≡ 6 * D
   -- the bad versions there
-  pub atOnce : openingAtOnce .starts first .answer .outcome ≡ R.Opened
-  pub atOnceState : stateNumber (openingAtOnce .starts first .session .state) ≡ 1
+  pub atOnce : openingAtOnce .starts closedSession first .answer .outcome ≡ R.Opened
+  pub atOnceState : stateNumber (openingAtOnce .starts closedSession first .session .state) ≡ 1
   pub anyhow : openingAnyhow .refines begun (force (pos 24)) .answer .outcome ≡ R.Opened
   pub turnsMore : refineRefusal turning (force (pos 24)) ≡ 0
   pub turned : roundsAgree (turning .tolerances) (laterRound turning (force (pos 24))) (heldRound turning) ≡ false
   pub ignored : ignoringVelocitiesOfRounds .refines turning (force (pos 24)) .answer .outcome ≡ R.Opened
+  pub keptStart : stateNumber (keepingStarts .starts begun even .session .state) ≡ 3
   pub closedState : stateNumber (closedSession .state) ≡ 0
   pub stillStarting : starting (after neverCounting begun moved) ≡ true
   pub notCounted : after neverCounting begun moved .corrections ≡ 0
@@ -159,6 +160,7 @@ computed =
       turnsMore = refl;
       turned = refl;
       ignored = refl;
+      keptStart = refl;
       closedState = refl;
       stillStarting = refl;
       notCounted = refl;

@@ -25,7 +25,7 @@ use Rattle.epoch_session.specs.Records.{heldRound, starting}
 use Rattle.epoch_session.proofs.Rules.{keeps-start}
 use Rattle.epoch_steps.specs.declared.Outcome.the-variants as R
 use Rattle.epoch_steps.specs.Refusals.{laterRound, refineRefusal, startRefusal}
-use Rattle.epoch_steps.specs.Steps.{refused, judgedRound, refineBy, refineOf}
+use Rattle.epoch_steps.specs.Steps.{refused, judgedRound, refineBy, refineOf, startOf}
 use Rattle.epoch_steps.proofs.Refusals.{refine-gives}
 use Rattle.epoch_steps.proofs.Answered.{start-answers, refine-answers}
 use Rattle.epoch_steps.proofs.Given.{given-samples}
@@ -34,8 +34,9 @@ use Rattle.demands.specs.Coordinates.{positionOf, velocityOf}
 use Rattle.session.specs.Coordinates.{Coordinate, onX, onY, onZ, axisOf}
 use Rattle.demands.specs.Histories.{ours, Call, predict, correct, withdraw, refine, Event, predicting, correcting, withdrawing, refining, step, event, after, history, countedRound, mores}
 use Rattle.demands.specs.ClosedForm.{Begins, place, startOrigin}
-use Rattle.demands.specs.Demands.{startNumber, refineNumber}
+use Rattle.demands.specs.Demands.{refineNumber}
 use Rattle.demands.specs.Theorems.{refused7, Plain}
+use Rattle.epoch_steps.specs.Answers.{roundAnswer}
 
 -- ---- no record is open and starting
 
@@ -146,21 +147,21 @@ one-more s es (inr f) (refine floats) = inr (ap (λ r. starting (r .session)) (u
 
 module _ (r : Request) where
   -- the answer's number is the refusal's
-  pub start-number : startNumber ours r ≡ startRefusal r
+  pub start-number : roundAnswer (startOf r .answer) .number ≡ startRefusal r
   start-number = ap (λ a. a .number) (start-answers r)
 
-  pub first-closes : NotZero (startNumber ours r) → ours .starts r .session ≡ closedSession
+  pub first-closes : NotZero (roundAnswer (startOf r .answer) .number) → startOf r .session ≡ closedSession
   first-closes f = start-closes r (λ e. f (start-number ∙ e))
 
-  pub first-leaves : (ours .starts r .session ≡ closedSession) ⊎ (starting (ours .starts r .session) ≡ true)
+  pub first-leaves : (startOf r .session ≡ closedSession) ⊎ (starting (startOf r .session) ≡ true)
   first-leaves = start-leaves r
 
-  counts-on : startNumber ours r ≡ 0 → (calls : List Call) → Counting (after ours (ours .starts r .session) calls) (mores 0 (history ours (ours .starts r .session) calls))
+  counts-on : roundAnswer (startOf r .answer) .number ≡ 0 → (calls : List Call) → Counting (after ours (startOf r .session) calls) (mores 0 (history ours (startOf r .session) calls))
   counts-on e [] =
       let z = sym start-number ∙ e in
       inl (start-begins r z, start-counts r z)
-  counts-on e (call ∷ calls) = one-more (after ours (ours .starts r .session) calls) (history ours (ours .starts r .session) calls) (counts-on e calls) call
+  counts-on e (call ∷ calls) = one-more (after ours (startOf r .session) calls) (history ours (startOf r .session) calls) (counts-on e calls) call
 
-  pub rounds-counted : startNumber ours r ≡ 0 → (calls : List Call) → starting (after ours (ours .starts r .session) calls) ≡ true →
-      after ours (ours .starts r .session) calls .corrections ≡ mores 0 (history ours (ours .starts r .session) calls)
+  pub rounds-counted : roundAnswer (startOf r .answer) .number ≡ 0 → (calls : List Call) → starting (after ours (startOf r .session) calls) ≡ true →
+      after ours (startOf r .session) calls .corrections ≡ mores 0 (history ours (startOf r .session) calls)
   rounds-counted e calls t = ⊎-elim (λ c. c .1) (λ f. clash t f) (counts-on e calls)

@@ -11,13 +11,14 @@ use Rattle.epoch_steps.proofs.Left.{later-points}
 use Rattle.session.specs.Coordinates.{onX}
 use Rattle.rules.specs.Rules.{Unrefused}
 use Rattle.demands.specs.Refusals.{RoundWithin, startTable, refineTable}
-use Rattle.demands.specs.Demands.{Demand2, Counts, Leaves}
-use Rattle.demands.specs.BadVersions.{openingAtOnce, openingAnyhow, neverCounting, ignoringVelocitiesOfRounds}
+use Rattle.demands.specs.Demands.{Demand2, Counts, Leaves, Demand1}
+use Rattle.demands.specs.BadVersions.{openingAtOnce, openingAnyhow, neverCounting, ignoringVelocitiesOfRounds, keepingStarts}
 use Rattle.demands.proofs.Rounds.{start-number}
 use Rattle.demands.proofs.Ours.{start-none, refine-none}
 use Rattle.demands.proofs.Examples.{stateNumber}
-use Rattle.demands.proofs.RoundExamples.{force, first, begun, moved, turning, kind, computed}
+use Rattle.demands.proofs.RoundExamples.{force, first, begun, moved, turning, kind, computed, even}
 use Rattle.demands.proofs.Conditions.{rounds-apart}
+use Rattle.session.specs.Moves.{closedSession}
 
 -- ---- no rule refuses the first round, nor a later one
 
@@ -40,13 +41,13 @@ not-within w =
 -- ---- opens at its first round, which must ask for more and leave a starting record
 
 pub openingAtOnce2 : ¬ Demand2 openingAtOnce
-openingAtOnce2 d = omega (arith, sym (ap kind (computed .atOnce)) ∙ ap (λ a. kind (a .answer .outcome)) (d .starts first unrefused-first))
+openingAtOnce2 d = omega (arith, sym (ap kind (computed .atOnce)) ∙ ap (λ a. kind (a .answer .outcome)) (d .starts closedSession first unrefused-first))
 
 pub openingAtOnceLeaves : ¬ Leaves openingAtOnce
 openingAtOnceLeaves d =
     ⊎-elim (λ e. omega (arith, sym (computed .atOnceState) ∙ ap (λ s. stateNumber (s .state)) e ∙ computed .closedState))
-    (λ t. omega (arith, sym (computed .atOnceState) ∙ ap stateNumber (keeps-start (openingAtOnce .starts first .session) t .state)))
-    (d .starts first)
+    (λ t. omega (arith, sym (computed .atOnceState) ∙ ap stateNumber (keeps-start (openingAtOnce .starts closedSession first .session) t .state)))
+    (d .starts closedSession first)
 
 -- ---- opens at any later round, also where a point moved
 
@@ -65,4 +66,11 @@ ignoringVelocitiesOfRounds2 d =
 
 pub neverCountingCounts : ¬ Counts neverCounting
 neverCountingCounts d =
-    omega (arith, sym (computed .notCounted) ∙ d .rounds first (start-number first ∙ computed .unrefused) moved (computed .stillStarting) ∙ computed .countedOnce)
+    omega (arith, sym (computed .notCounted) ∙ d .rounds closedSession first (start-number first ∙ computed .unrefused) moved (computed .stillStarting) ∙ computed .countedOnce)
+
+-- ---- keeps the record that was there where it refuses a first round: starting where it must be closed
+
+pub keepingStarts1 : ¬ Demand1 keepingStarts
+keepingStarts1 d =
+    let e = d .unstarted begun even (λ z. omega (arith, sym (start-number even ∙ computed .tenth) ∙ z)) in
+    omega (arith, sym (computed .keptStart) ∙ ap (λ s. stateNumber (s .state)) e ∙ computed .closedState)

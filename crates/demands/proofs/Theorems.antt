@@ -1,4 +1,5 @@
 -- What is proved, collected.
+use Rattle.demands.specs.Histories.{ours}
 use Rattle.demands.specs.Theorems.{OurCalls, AnyCalls, TurnedDown}
 use Rattle.demands.proofs.Ours.{demand1, demand2, formulas, demand3, counts, leave}
 use Rattle.demands.proofs.Cowell.{in-ticks}
@@ -25,10 +26,13 @@ our-calls =
       badSettings = bad-settings;
       unopened = unopened;
       unstarted = unstarted;
+      ofOpenings = of-openings ours demand3 counts;
+      ofStarts = of-starts ours demand3 counts;
+      replaces = U.replacing ours demand1 demand2;
     }
 
 pub any-calls : AnyCalls
-any-calls = record { anew = anew; anewStart = anew-start; openings = of-openings; starts = of-starts; openingSample = opening-sample; unique = U.unique }
+any-calls = record { replaces = U.replacing; anew = anew; anewStart = anew-start; openings = of-openings; starts = of-starts; openingSample = opening-sample; unique = U.unique }
 
 pub turned-down : TurnedDown
 turned-down = T.turned-down

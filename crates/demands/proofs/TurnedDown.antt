@@ -8,7 +8,7 @@ use Rattle.exact.specs.Numerator.{D}
 use Rattle.ticks.specs.declared.WholeSample.{WholeSample}
 use Rattle.ticks.specs.Samples.{wholeOf}
 use Rattle.session.specs.declared.Session.{Session}
-use Rattle.session.specs.Moves.{presentPoint}
+use Rattle.session.specs.Moves.{presentPoint, closedSession}
 use Rattle.steps.specs.declared.Prediction.{Prediction}
 use Rattle.steps.specs.declared.Prediction.the-variants as P
 use Rattle.steps.specs.Answers.{noPoint, reportedPoint, predictionAnswer, correctionAnswer}
@@ -19,13 +19,13 @@ use Rattle.rules.specs.Rules.{Exactly, Unrefused}
 use Rattle.demands.specs.Refusals.{openTable, predictTable, correctTable}
 use Rattle.demands.specs.ClosedForm.{Origin, Begins, origin, Predicts, Corrects, Tells}
 use Rattle.demands.specs.Demands.{Unsummed, Demand1, Demand2, Formulas, Demand3, Counts, Leaves, correctNumber}
-use Rattle.demands.specs.BadVersions.{zeroed, refusing, predictingZero, unmoving, repeating, inventingPoints, inventingCorrections, ignoringVelocities}
-use Rattle.demands.specs.Theorems.{TurnedDown}
-use Rattle.demands.proofs.Opens.{open-begins}
+use Rattle.demands.specs.BadVersions.{zeroed, refusing, predictingZero, unmoving, repeating, inventingPoints, inventingCorrections, ignoringVelocities, keeping}
+use Rattle.demands.specs.Theorems.{TurnedDown, Replaces}
+use Rattle.demands.proofs.Opens.{open-begins, number-is}
 use Rattle.demands.proofs.Alike.{same-point}
 use Rattle.demands.proofs.Ours.{demand1, open-none, predict-none, correct-none}
 use Rattle.demands.proofs.RoundsTurnedDown as R
-use Rattle.demands.proofs.Examples.{wide, turning, turningOnce, waiting, start, a24, round, repeatingOnce, repeatingWaits, predicted, stateNumber, computed}
+use Rattle.demands.proofs.Examples.{wide, turning, turningOnce, waiting, start, a24, round, repeatingOnce, repeatingWaits, predicted, stateNumber, computed, none}
 use Rattle.demands.proofs.Conditions.{agreement}
 use Rattle.demands.proofs.Tables.{correct-first}
 use Rattle.rules.specs.Readings.{one-exactly}
@@ -48,10 +48,10 @@ begins = open-begins wide (computed .opened)
 -- ---- refuses everything: it gives 1 for a p of 1, and does not open
 
 refusing1 : ¬ Demand1 refusing
-refusing1 d = d .opens wide .0 .0 refl (omega arith, omega arith)
+refusing1 d = d .opens closedSession wide .0 .0 refl (omega arith, omega arith)
 
 refusing2 : ¬ Demand2 refusing
-refusing2 d = let e = ap (λ r. r .answer) (d .opens wide unrefused-open) in clash (cc)
+refusing2 d = let e = ap (λ r. r .answer) (d .opens closedSession wide unrefused-open) in clash (cc)
 
 -- ---- always predicts zero: 0 where the formula gives 1016
 
@@ -127,7 +127,7 @@ unsummed-none o = record { cowell = λ k n l h. absurd (omega arith); adams = λ
 refusing3 : Demand3 refusing
 refusing3 =
     record {
-      begins = λ r e. absurd (clash (cc));
+      begins = λ s r e. absurd (clash (cc));
       started = λ s floats e. absurd (clash (cc));
       unsummed = λ o s b calls. subst (Unsummed o) (sym (accepts-none s calls)) (unsummed-none o);
       same = λ o s t b d calls others e.
@@ -175,6 +175,17 @@ ignoringVelocities2 d =
     let again = d .repeats (waiting turning) a24 (correct-none (waiting turning) a24 .0 (computed .turnsAgain)) (agreement (waiting turning) _ .no .0 (computed .turned)) in
     omega (arith, sym (computed .ignored) ∙ ap (λ r. correctionAnswer (r .answer) .kind) again)
 
+-- ---- keeps the record that was there where it refuses an open: settled where it must be closed, and closed on another record
+
+keeping1 : ¬ Demand1 keeping
+keeping1 d =
+    let e = d .closed (start wide) none (λ z. omega (arith, sym (number-is none ∙ computed .refused) ∙ z)) in
+    omega (arith, sym (computed .keptOpen) ∙ ap (λ s. stateNumber (s .state)) e ∙ computed .closedFirst)
+
+keepingReplaces : ¬ Replaces keeping
+keepingReplaces h =
+    omega (arith, sym (computed .keptOpen) ∙ ap (λ r. stateNumber (r .session .state)) (h .opens (start wide) closedSession none) ∙ computed .keptClosed)
+
 pub turned-down : TurnedDown
 turned-down =
     record {
@@ -193,6 +204,9 @@ turned-down =
       openingAtOnceLeaves = R.openingAtOnceLeaves;
       openingAnyhow2 = R.openingAnyhow2;
       neverCountingCounts = R.neverCountingCounts;
+      keeping1 = keeping1;
+      keepingReplaces = keepingReplaces;
+      keepingStarts1 = R.keepingStarts1;
       ignoringVelocities1 = ignoringVelocities1;
       ignoringVelocities2 = ignoringVelocities2;
       ignoringVelocitiesOfRounds2 = R.ignoringVelocitiesOfRounds2;

@@ -40,6 +40,7 @@ use Rattle.demands.proofs.Conditions.{agreement, rounds-apart}
 use Rattle.demands.proofs.Tables.{open-first, predict-first, correct-first, withdraw-first, start-first, refine-first}
 use Rattle.demands.proofs.Ours.{open-none, predict-none, correct-none, withdraw-none, start-none, refine-none}
 use Rattle.rules.specs.Readings.{one-first, one-exactly}
+use Rattle.demands.specs.Theorems.{Replaces}
 
 -- ---- a refusal's number is its answer
 
@@ -76,8 +77,8 @@ given e z = suc-ne-zero _ (sym e ∙ z)
 -- ---- the number is the table's, and where it is 0 no rule applies
 
 module _ (I : Implementation) (d : Demand1 I) where
-  opening-number : (r : Request) → openNumber I r ≡ openRefusal r
-  opening-number r = one-exactly (openTable r) (openNumber I r) (openRefusal r) (open-first r) (d .opens r)
+  opening-number : (s : Session) (r : Request) → openNumber I s r ≡ openRefusal r
+  opening-number s r = one-exactly (openTable r) (openNumber I s r) (openRefusal r) (open-first r) (d .opens s r)
 
   prediction-number : (s : Session) → predictNumber I s ≡ predictRefusal s
   prediction-number s = one-exactly (predictTable s) (predictNumber I s) (predictRefusal s) (predict-first s) (d .predicts s)
@@ -88,17 +89,17 @@ module _ (I : Implementation) (d : Demand1 I) where
   withdrawal-number : (s : Session) → withdrawNumber I s ≡ withdrawRefusal s
   withdrawal-number s = one-exactly (withdrawTable s) (withdrawNumber I s) (withdrawRefusal s) (withdraw-first s) (d .withdraws s)
 
-  first-round-number : (r : Request) → startNumber I r ≡ startRefusal r
-  first-round-number r = one-first (startTable r) (startNumber I r) (startRefusal r) (start-first r) (d .starts r)
+  first-round-number : (s : Session) (r : Request) → startNumber I s r ≡ startRefusal r
+  first-round-number s r = one-first (startTable r) (startNumber I s r) (startRefusal r) (start-first r) (d .starts s r)
 
   later-round-number : (s : Session) (floats : List Float) → refineNumber I s floats ≡ refineRefusal s floats
   later-round-number s floats = one-exactly (refineTable s floats) (refineNumber I s floats) (refineRefusal s floats) (refine-first s floats) (d .refines s floats)
 
   -- what a refusal of the table's number n + 1 leaves and answers
-  refused-opening : (r : Request) (n : ℕ) → openRefusal r ≡ suc n → I .opens r ≡ record { session = closedSession; answer = O.Refused (suc n) }
-  refused-opening r n h =
-      let m = opening-number r ∙ h in
-      λ i. record { session = d .closed r (given m) i; answer = opening-refused (I .opens r .answer) n m i }
+  refused-opening : (s : Session) (r : Request) (n : ℕ) → openRefusal r ≡ suc n → I .opens s r ≡ record { session = closedSession; answer = O.Refused (suc n) }
+  refused-opening s r n h =
+      let m = opening-number s r ∙ h in
+      λ i. record { session = d .closed s r (given m) i; answer = opening-refused (I .opens s r .answer) n m i }
 
   refused-prediction : (s : Session) (n : ℕ) → predictRefusal s ≡ suc n → I .predicts s ≡ record { session = s; answer = P.Refused (suc n) }
   refused-prediction s n h =
@@ -120,10 +121,10 @@ module _ (I : Implementation) (d : Demand1 I) where
       left true e = d .settled s a (m ∙ eqb-true (suc n) 8 e)
       left false e = d .uncorrected s a (given m) (λ f. eqb-false (suc n) 8 e (sym m ∙ f))
 
-  refused-first-round : (r : Request) (n : ℕ) → startRefusal r ≡ suc n → I .starts r ≡ record { session = closedSession; answer = refused (suc n) }
-  refused-first-round r n h =
-      let m = first-round-number r ∙ h in
-      λ i. record { session = d .unstarted r (given m) i; answer = round-refused (I .starts r .answer) n m (d .blankStart r (given m)) i }
+  refused-first-round : (s : Session) (r : Request) (n : ℕ) → startRefusal r ≡ suc n → I .starts s r ≡ record { session = closedSession; answer = refused (suc n) }
+  refused-first-round s r n h =
+      let m = first-round-number s r ∙ h in
+      λ i. record { session = d .unstarted s r (given m) i; answer = round-refused (I .starts s r .answer) n m (d .blankStart s r (given m)) i }
 
   refused-later-round : (s : Session) (floats : List Float) (n : ℕ) → refineRefusal s floats ≡ suc n → I .refines s floats ≡ record { session = cond (eqb (suc n) 8) closedSession s; answer = refused (suc n) }
   refused-later-round s floats n h = λ i. record { session = left (eqb (suc n) 8) refl i; answer = round-refused (I .refines s floats .answer) n m (d .blankRound s floats (given m)) i }
@@ -138,9 +139,9 @@ module _ (I : Implementation) (d : Demand1 I) where
 -- ---- two implementations
 
 module _ (I J : Implementation) (d : Demand1 I) (e : Demand2 I) (f : Demand1 J) (g : Demand2 J) where
-  same-opening : (r : Request) (n : ℕ) → openRefusal r ≡ n → I .opens r ≡ J .opens r
-  same-opening r zero h = let u = open-none r .0 h in e .opens r u ∙ sym (g .opens r u)
-  same-opening r (suc n) h = refused-opening I d r n h ∙ sym (refused-opening J f r n h)
+  same-opening : (s t : Session) (r : Request) (n : ℕ) → openRefusal r ≡ n → I .opens s r ≡ J .opens t r
+  same-opening s t r zero h = let u = open-none r .0 h in e .opens s r u ∙ sym (g .opens t r u)
+  same-opening s t r (suc n) h = refused-opening I d s r n h ∙ sym (refused-opening J f t r n h)
 
   same-prediction : (s : Session) (n : ℕ) → predictRefusal s ≡ n → I .predicts s ≡ J .predicts s
   same-prediction s zero h = let u = predict-none s .0 h in e .predicts s u ∙ sym (g .predicts s u)
@@ -158,9 +159,9 @@ module _ (I J : Implementation) (d : Demand1 I) (e : Demand2 I) (f : Demand1 J) 
   same-withdrawal s zero h = let u = withdraw-none s .0 h in e .withdraws s u ∙ sym (g .withdraws s u)
   same-withdrawal s (suc n) h = refused-withdrawal I d s n h ∙ sym (refused-withdrawal J f s n h)
 
-  same-first-round : (r : Request) (n : ℕ) → startRefusal r ≡ n → I .starts r ≡ J .starts r
-  same-first-round r zero h = let u = start-none r .0 h in e .starts r u ∙ sym (g .starts r u)
-  same-first-round r (suc n) h = refused-first-round I d r n h ∙ sym (refused-first-round J f r n h)
+  same-first-round : (s t : Session) (r : Request) (n : ℕ) → startRefusal r ≡ n → I .starts s r ≡ J .starts t r
+  same-first-round s t r zero h = let u = start-none r .0 h in e .starts s r u ∙ sym (g .starts t r u)
+  same-first-round s t r (suc n) h = refused-first-round I d s r n h ∙ sym (refused-first-round J f t r n h)
 
   same-round-judgement : (s : Session) (floats : List Float) → Unrefused (refineTable s floats) → (t : Bool) → roundsAgree (s .tolerances) (laterRound s floats) (heldRound s) ≡ t → I .refines s floats ≡ J .refines s floats
   same-round-judgement s floats u true h = let w = rounds-apart s (laterRound s floats) .yes .0 h in e .opensRound s floats u w ∙ sym (g .opensRound s floats u w)
@@ -173,10 +174,18 @@ module _ (I J : Implementation) (d : Demand1 I) (e : Demand2 I) (f : Demand1 J) 
   pub unique : Agree I J
   unique =
       record {
-        opens = λ r. same-opening r (openRefusal r) refl;
+        opens = λ s r. same-opening s s r (openRefusal r) refl;
         predicts = λ s. same-prediction s (predictRefusal s) refl;
         corrects = λ s a. same-correction s a (correctRefusal s a) refl;
         withdraws = λ s. same-withdrawal s (withdrawRefusal s) refl;
-        starts = λ r. same-first-round r (startRefusal r) refl;
+        starts = λ s r. same-first-round s s r (startRefusal r) refl;
         refines = λ s floats. same-later-round s floats (refineRefusal s floats) refl;
       }
+
+-- so an open and a first round do not hang on the record that they replace
+pub replacing : (I : Implementation) → Demand1 I → Demand2 I → Replaces I
+replacing I d e =
+    record {
+      opens = λ s t r. same-opening I I d e d e s t r (openRefusal r) refl;
+      starts = λ s t r. same-first-round I I d e d e s t r (startRefusal r) refl;
+    }

@@ -20,7 +20,7 @@ use Rattle.steps.specs.declared.Prediction.the-variants as P
 use Rattle.steps.specs.declared.Correction.the-variants as C
 use Rattle.steps.specs.declared.Withdrawal.the-variants as W
 use Rattle.steps.specs.Answers.{noPoint, reportedPoint}
-use Rattle.steps.specs.Steps.{predictOf, correctOf, withdrawOf}
+use Rattle.steps.specs.Steps.{predictOf, correctOf, withdrawOf, openOf}
 use Rattle.session.specs.Requests.{Request}
 use Rattle.epoch_session.specs.Rounds.{earlierPoint, everyBelow}
 use Rattle.epoch_session.specs.Records.{heldRound, openedRound}
@@ -28,19 +28,20 @@ use Rattle.epoch_steps.specs.declared.AfterRound.{AfterRound}
 use Rattle.epoch_steps.specs.declared.Outcome.{Outcome}
 use Rattle.epoch_steps.specs.declared.Outcome.the-variants as R
 use Rattle.epoch_steps.specs.Refusals.{firstRound, laterRound}
-use Rattle.epoch_steps.specs.Steps.{told, refused, refineOf}
+use Rattle.epoch_steps.specs.Steps.{told, refused, refineOf, startOf}
 use Rattle.demands.specs.Histories.{Implementation, ours}
 use Rattle.integers.specs.Tests.{_and_}
+use Rattle.steps.specs.declared.Opening.{Opening}
 
 -- refuses everything
 abbrev pub refusing : Implementation
 refusing =
     record {
-      opens = λ r. record { session = closedSession; answer = O.Refused 1 };
+      opens = λ s r. record { session = closedSession; answer = O.Refused 1 };
       predicts = λ s. record { session = s; answer = P.Refused 7 };
       corrects = λ s a. record { session = s; answer = C.Refused 7 };
       withdraws = λ s. record { session = s; answer = W.Refused 7 };
-      starts = λ r. record { session = closedSession; answer = refused 1 };
+      starts = λ s r. record { session = closedSession; answer = refused 1 };
       refines = λ s floats. record { session = s; answer = refused 7 };
     }
 
@@ -140,7 +141,7 @@ openingAtOnce =
       predicts = predictOf;
       corrects = correctOf;
       withdraws = withdrawOf;
-      starts = λ r. openedAtOnce r (ours .starts r) (ours .starts r .answer .outcome);
+      starts = λ s r. openedAtOnce r (startOf r) (startOf r .answer .outcome);
       refines = refineOf;
     }
 
@@ -223,4 +224,37 @@ ignoringVelocitiesOfRounds =
           openedBy
           (everyBelow (s .points) (λ j. positionsAgree (s .tolerances) (earlierPoint (laterRound s floats) j) (earlierPoint (heldRound s) j)))
           s floats (refineOf s floats);
+    }
+
+-- keeps the record that was there where it refuses an open
+abbrev pub keptBy : Opening → Session → Session → Session
+keptBy O.Opened s t = t
+keptBy (O.Refused n) s t = s
+
+abbrev pub keeping : Implementation
+keeping =
+    record {
+      opens = λ s r. record { session = keptBy (openOf r .answer) s (openOf r .session); answer = openOf r .answer };
+      predicts = predictOf;
+      corrects = correctOf;
+      withdraws = withdrawOf;
+      starts = ours .starts;
+      refines = refineOf;
+    }
+
+-- the same of a first round
+abbrev pub keptByRound : Outcome → Session → Session → Session
+keptByRound (R.More c) s t = t
+keptByRound R.Opened s t = t
+keptByRound (R.Refused n) s t = s
+
+abbrev pub keepingStarts : Implementation
+keepingStarts =
+    record {
+      opens = ours .opens;
+      predicts = predictOf;
+      corrects = correctOf;
+      withdraws = withdrawOf;
+      starts = λ s r. record { session = keptByRound (startOf r .answer .outcome) s (startOf r .session); answer = startOf r .answer };
+      refines = refineOf;
     }

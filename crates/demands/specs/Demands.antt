@@ -44,8 +44,8 @@ use Rattle.demands.specs.ClosedForm.{Origin, Begins, origin, startOrigin
 
 -- the paper's number of an answer; an answer with a number has nothing else (`steps`, Answers)
 module _ (I : Implementation) where
-  abbrev pub openNumber : Request → ℕ
-  openNumber r = openingAnswer (I .opens r .answer) .number
+  abbrev pub openNumber : Session → Request → ℕ
+  openNumber s r = openingAnswer (I .opens s r .answer) .number
 
   abbrev pub predictNumber : Session → ℕ
   predictNumber s = predictionAnswer (I .predicts s .answer) .number
@@ -56,40 +56,40 @@ module _ (I : Implementation) where
   abbrev pub withdrawNumber : Session → ℕ
   withdrawNumber s = withdrawalAnswer (I .withdraws s .answer) .number
 
-  abbrev pub startNumber : Request → ℕ
-  startNumber r = roundAnswer (I .starts r .answer) .number
+  abbrev pub startNumber : Session → Request → ℕ
+  startNumber s r = roundAnswer (I .starts s r .answer) .number
 
   abbrev pub refineNumber : Session → List Float → ℕ
   refineNumber s floats = roundAnswer (I .refines s floats .answer) .number
 
 pub record Demand1 (I : Implementation) : Type 0 where
   -- every answer carries the number of the first rule of its table that applies, and 0 where none does
-  pub opens : (r : Request) → Exactly (openTable r) (openNumber I r)
+  pub opens : (s : Session) (r : Request) → Exactly (openTable r) (openNumber I s r)
   pub predicts : (s : Session) → Exactly (predictTable s) (predictNumber I s)
   pub corrects : (s : Session) (a : Sample) → Exactly (correctTable s a) (correctNumber I s a)
   pub withdraws : (s : Session) → Exactly (withdrawTable s) (withdrawNumber I s)
   -- a refused open leaves the record closed and zero, 8 leaves it settled at the point before, every other refusal leaves it as it was
-  pub closed : (r : Request) → NotZero (openNumber I r) → I .opens r .session ≡ closedSession
+  pub closed : (s : Session) (r : Request) → NotZero (openNumber I s r) → I .opens s r .session ≡ closedSession
   pub unpredicted : (s : Session) → NotZero (predictNumber I s) → I .predicts s .session ≡ s
   pub settled : (s : Session) (a : Sample) → correctNumber I s a ≡ 8 → I .corrects s a .session ≡ settledAgain s
   pub uncorrected : (s : Session) (a : Sample) → NotZero (correctNumber I s a) → ¬ (correctNumber I s a ≡ 8) → I .corrects s a .session ≡ s
   pub unwithdrawn : (s : Session) → NotZero (withdrawNumber I s) → I .withdraws s .session ≡ s
   -- rounds: a refused first one leaves the record closed and zero, and so does 8 of a later one; every other refusal leaves it as it was
-  pub starts : (r : Request) → First (startTable r) (startNumber I r)
+  pub starts : (s : Session) (r : Request) → First (startTable r) (startNumber I s r)
   pub refines : (s : Session) (floats : List Float) → Exactly (refineTable s floats) (refineNumber I s floats)
-  pub unstarted : (r : Request) → NotZero (startNumber I r) → I .starts r .session ≡ closedSession
+  pub unstarted : (s : Session) (r : Request) → NotZero (startNumber I s r) → I .starts s r .session ≡ closedSession
   pub ended : (s : Session) (floats : List Float) → refineNumber I s floats ≡ 8 → I .refines s floats .session ≡ closedSession
   pub unrefined : (s : Session) (floats : List Float) → NotZero (refineNumber I s floats) → ¬ (refineNumber I s floats ≡ 8) → I .refines s floats .session ≡ s
   -- a refused round has no points
-  pub blankStart : (r : Request) → NotZero (startNumber I r) → I .starts r .answer .track ≡ noPoints
+  pub blankStart : (s : Session) (r : Request) → NotZero (startNumber I s r) → I .starts s r .answer .track ≡ noPoints
   pub blankRound : (s : Session) (floats : List Float) → NotZero (refineNumber I s floats) → I .refines s floats .answer .track ≡ noPoints
 
 -- ---- demand 2: a call that no rule refuses gives the formulas' values and takes the formulas' step
 
 pub record Demand2 (I : Implementation) : Type 0 where
   -- the record asked for, and an answer without values
-  pub opens : (r : Request) → Unrefused (openTable r) →
-      I .opens r ≡ record { session = openedWith (r .points) (r .tolerances) (r .limit) (exactPoint (r .point)) (r .floats); answer = O.Opened }
+  pub opens : (s : Session) (r : Request) → Unrefused (openTable r) →
+      I .opens s r ≡ record { session = openedWith (r .points) (r .tolerances) (r .limit) (exactPoint (r .point)) (r .floats); answer = O.Opened }
   -- the predicted point, which the record awaits
   pub predicts : (s : Session) → Unrefused (predictTable s) →
       I .predicts s ≡ record { session = awaitingAt s 0 (predictedPoint s); answer = P.Predicted (reportedPoint (predictedPoint s)) }
@@ -103,9 +103,9 @@ pub record Demand2 (I : Implementation) : Type 0 where
   -- the record without its estimate
   pub withdraws : (s : Session) → Unrefused (withdrawTable s) → I .withdraws s ≡ record { session = settledAgain s; answer = W.Withdrawn }
   -- a first round asks for more, with no change: its points, and the record that holds its samples and the epoch
-  pub starts : (r : Request) → Unrefused (startTable r) →
+  pub starts : (s : Session) (r : Request) → Unrefused (startTable r) →
       let round = firstRound r in
-      I .starts r ≡ record { session = startingFrom (r .tolerances) (r .limit) 0 (exactPoint (r .point)) round; answer = told (R.More noChange) round }
+      I .starts s r ≡ record { session = startingFrom (r .tolerances) (r .limit) 0 (exactPoint (r .point)) round; answer = told (R.More noChange) round }
   -- a later round opens the session at its newest point where at every point all six changes are within their own tolerance
   pub opensRound : (s : Session) (floats : List Float) → Unrefused (refineTable s floats) → RoundWithin s (laterRound s floats) →
       let round = laterRound s floats in
@@ -144,7 +144,7 @@ module _ (o : Origin) (k : Coordinate) where
   abbrev pub sample : List Entry → ℕ → ℕ → ℤ
   sample es n i = samples o k (samplesOf es) (length es - n + i)
 
-  -- position(n) - 2 position(n-1) + position(n-2), and velocity(n) - velocity(n-1)
+  -- the second difference of the positions at n, and the first of the velocities
   abbrev pub secondDifference : List Entry → ℕ → ℤ
   secondDifference es n = position es n -ℤ pos 2 *ℤ position es (n - 1) +ℤ position es (n - 2)
 
@@ -162,14 +162,14 @@ pub record UnsummedInTicks (o : Origin) (es : List Entry) : Type 0 where
   pub cowell : (k : Coordinate) (n : ℕ) → 2 ≤ n → n ≤ length es → secondDifference o k es n over D ≐ series l 0 (o .points + 2) (sample o k es n)
   pub adams : (k : Coordinate) (n : ℕ) → 1 ≤ n → n ≤ length es → firstDifference o k es n over D ≐ series c 0 (o .points + 1) (sample o k es n)
 
--- the same exact position and velocity, and the same next prediction where neither refuses it
+-- both are at one exact point, and where both predict the next one, they predict the same
 pub record SamePoint (I : Implementation) (s t : Session) : Type 0 where
   pub present : presentPoint s ≡ presentPoint t
   pub next : (q r : ReportedPoint) → I .predicts s .answer ≡ P.Predicted q → I .predicts t .answer ≡ P.Predicted r → q ≡ r
 
 pub record Demand3 (I : Implementation) : Type 0 where
   -- a successful open leaves a record that begins where it was asked to
-  pub begins : (r : Request) → I .opens r .answer ≡ O.Opened → Begins (origin r) (I .opens r .session)
+  pub begins : (s : Session) (r : Request) → I .opens s r .answer ≡ O.Opened → Begins (origin r) (I .opens s r .session)
   -- so does a later round that opens: at its newest point, with its samples
   pub started : (s : Session) (floats : List Float) → I .refines s floats .answer .outcome ≡ R.Opened → Begins (startOrigin s floats) (I .refines s floats .session)
   -- however the record began, and whatever was called since
@@ -182,12 +182,12 @@ pub record Demand3 (I : Implementation) : Type 0 where
 
 pub record Counts (I : Implementation) : Type 0 where
   -- both begin at 0
-  pub opened : (r : Request) → I .opens r .answer ≡ O.Opened → (I .opens r .session .accepted ≡ 0) × (I .opens r .session .corrections ≡ 0)
+  pub opened : (s : Session) (r : Request) → I .opens s r .answer ≡ O.Opened → (I .opens s r .session .accepted ≡ 0) × (I .opens s r .session .corrections ≡ 0)
   pub openedRound : (s : Session) (floats : List Float) → I .refines s floats .answer .outcome ≡ R.Opened →
       (I .refines s floats .session .accepted ≡ 0) × (I .refines s floats .session .corrections ≡ 0)
   -- while a session is starting: the later rounds that asked for more
-  pub rounds : (r : Request) → startNumber I r ≡ 0 → (calls : List Call) → starting (after I (I .starts r .session) calls) ≡ true →
-      after I (I .starts r .session) calls .corrections ≡ mores 0 (history I (I .starts r .session) calls)
+  pub rounds : (s : Session) (r : Request) → startNumber I s r ≡ 0 → (calls : List Call) → starting (after I (I .starts s r .session) calls) ≡ true →
+      after I (I .starts s r .session) calls .corrections ≡ mores 0 (history I (I .starts s r .session) calls)
   -- one more for each answer *accepted*
   pub accepted : (s : Session) → holds s ≡ true → (calls : List Call) → after I s calls .accepted ≡ s .accepted + length (entries (history I s calls))
   -- while a correction is awaited, the answers *again* since the last prediction; else none
@@ -200,8 +200,8 @@ pub record Counts (I : Implementation) : Type 0 where
 pub record Leaves (I : Implementation) : Type 0 where
   -- an open leaves a record that is closed and zero, or open, a first round one that is closed and zero, or starting; another call leaves it untouched, open,
   -- starting, or closed and zero
-  pub opens : (r : Request) → (I .opens r .session ≡ closedSession) ⊎ (holds (I .opens r .session) ≡ true)
-  pub starts : (r : Request) → (I .starts r .session ≡ closedSession) ⊎ (starting (I .starts r .session) ≡ true)
+  pub opens : (s : Session) (r : Request) → (I .opens s r .session ≡ closedSession) ⊎ (holds (I .opens s r .session) ≡ true)
+  pub starts : (s : Session) (r : Request) → (I .starts s r .session ≡ closedSession) ⊎ (starting (I .starts s r .session) ≡ true)
   pub steps : (s : Session) (call : Call) →
       (step I s call ≡ s) ⊎ ((holds (step I s call) ≡ true) ⊎ ((starting (step I s call) ≡ true) ⊎ (step I s call ≡ closedSession)))
   -- an open record stays open; its sums and samples are those of its beginning and the accepted samples, and it stands at the last accepted point
@@ -214,9 +214,9 @@ pub record Leaves (I : Implementation) : Type 0 where
 -- ---- two implementations that give the same record and answer on every input
 
 pub record Agree (I J : Implementation) : Type 0 where
-  pub opens : (r : Request) → I .opens r ≡ J .opens r
+  pub opens : (s : Session) (r : Request) → I .opens s r ≡ J .opens s r
   pub predicts : (s : Session) → I .predicts s ≡ J .predicts s
   pub corrects : (s : Session) (a : Sample) → I .corrects s a ≡ J .corrects s a
   pub withdraws : (s : Session) → I .withdraws s ≡ J .withdraws s
-  pub starts : (r : Request) → I .starts r ≡ J .starts r
+  pub starts : (s : Session) (r : Request) → I .starts s r ≡ J .starts s r
   pub refines : (s : Session) (floats : List Float) → I .refines s floats ≡ J .refines s floats

@@ -27,24 +27,24 @@ use Rattle.epoch_steps.specs.Steps.{startOf, refineOf}
 
 -- ---- implementations
 
--- the six calls, as functions of what they are given; an opening and a first round do not look at the record that they replace
+-- the six calls, as functions of what they are given; an opening and a first round are given the record that they replace, too
 pub record Implementation : Type 0 where
-  pub opens : Request → AfterOpen
+  pub opens : Session → Request → AfterOpen
   pub predicts : Session → AfterPredict
   pub corrects : Session → Sample → AfterCorrect
   pub withdraws : Session → AfterWithdraw
-  pub starts : Request → AfterRound
+  pub starts : Session → Request → AfterRound
   pub refines : Session → List Float → AfterRound
 
 -- the definitions that our functions are proved to compute
 abbrev pub ours : Implementation
 ours =
     record {
-      opens = openOf;
+      opens = λ s. openOf;
       predicts = predictOf;
       corrects = correctOf;
       withdraws = withdrawOf;
-      starts = startOf;
+      starts = λ s. startOf;
       refines = refineOf;
     }
 
@@ -93,8 +93,8 @@ pub data Act : Type 0 where
 
 abbrev pub lived : Implementation → Session → List Act → Session
 lived I s [] = s
-lived I s (opening r ∷ acts) = I .opens r .session
-lived I s (beginning r ∷ acts) = I .starts r .session
+lived I s (opening r ∷ acts) = I .opens (lived I s acts) r .session
+lived I s (beginning r ∷ acts) = I .starts (lived I s acts) r .session
 lived I s (calling call ∷ acts) = step I (lived I s acts) call
 
 -- ---- what the answers of a history tell

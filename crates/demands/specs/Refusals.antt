@@ -52,7 +52,7 @@ SomePoints p = (1 ≤ p) × (p ≤ 9)
 abbrev pub Settings : Tolerances → ℕ → Type 0
 Settings t limit = ((t .position ≤ 1048576) × (t .velocity ≤ 1048576)) × ((1 ≤ limit) × (limit ≤ 8))
 
--- on each axis the exact position change is at most the one tolerance, and the exact velocity change at most the other: all six
+-- exact changes, all six: on no axis has the position moved by more than the one tolerance, or the velocity by more than the other
 abbrev pub Near : Tolerances → Point → Point → Type 0
 Near t q before =
     (k : Coordinate) →
@@ -78,7 +78,7 @@ RoundWithin s r = (j : ℕ) → j < r .points → Near (s .tolerances) (earlierP
 abbrev pub Even : ℕ → Type 0
 Even p = (m : ℕ) × (p ≡ m + m)
 
--- ---- the tables. `PlacedPoint`: every position is at least -2^52 and below 2^52, every velocity at least -2^40 and below 2^40
+-- ---- the tables. `PlacedPoint`: -2^52 ≤ position < 2^52 and -2^40 ≤ velocity < 2^40 on every axis
 
 -- samples: all of them are looked at for 4 before any is for 5
 abbrev pub sampleTable : List Float → List Rule

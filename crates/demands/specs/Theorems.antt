@@ -25,24 +25,30 @@ use Rattle.demands.specs.Histories.{Implementation, ours, Call, predict,
 use Rattle.demands.specs.Refusals.{Settings}
 use Rattle.demands.specs.ClosedForm.{Origin, Begins, place, openingSamples, origin, startOrigin}
 use Rattle.demands.specs.Demands.{openNumber, startNumber, Demand1, Demand2, Formulas, Unsummed, UnsummedInTicks, SamePoint, Demand3, Counts, Leaves, Agree}
-use Rattle.demands.specs.BadVersions.{refusing, predictingZero, unmoving, repeating, inventingPoints, inventingCorrections, openingAtOnce, openingAnyhow, neverCounting, ignoringVelocities, ignoringVelocitiesOfRounds}
+use Rattle.demands.specs.BadVersions.{refusing, predictingZero, unmoving, repeating, inventingPoints, inventingCorrections, openingAtOnce, openingAnyhow, neverCounting, keeping, keepingStarts, ignoringVelocities, ignoringVelocitiesOfRounds}
 
--- opened alike: the same p, position, velocity and rounded opening samples; the tolerances and the limit may differ
+-- opened alike: with one p, at one point, and with floats that round alike; nothing is said of the tolerances and the limit
 pub record Alike (q r : Request) : Type 0 where
   pub points : q .points ≡ r .points
   pub point : q .point ≡ r .point
   pub samples : (k : Coordinate) → openingSamples q k ≡ openingSamples r k
 
--- demand 3 and the counts as they read of a session that `open` opened
+-- what an open and a first round give does not hang on the record that they replace
+pub record Replaces (I : Implementation) : Type 0 where
+  pub opens : (s t : Session) (r : Request) → I .opens s r ≡ I .opens t r
+  pub starts : (s t : Session) (r : Request) → I .starts s r ≡ I .starts t r
+
+-- demand 3 and the counts as they read of a session that `open` opened, whatever record it replaced
 pub record OfOpenings (I : Implementation) : Type 0 where
-  pub unsummed : (r : Request) → I .opens r .answer ≡ O.Opened → (calls : List Call) → Unsummed (origin r) (entries (history I (I .opens r .session) calls))
-  pub same : (q r : Request) → I .opens q .answer ≡ O.Opened → I .opens r .answer ≡ O.Opened → Alike q r → (calls others : List Call) →
-      samplesOf (entries (history I (I .opens q .session) calls)) ≡ samplesOf (entries (history I (I .opens r .session) others)) →
-      SamePoint I (after I (I .opens q .session) calls) (after I (I .opens r .session) others)
-  pub accepted : (r : Request) → I .opens r .answer ≡ O.Opened → (calls : List Call) →
-      after I (I .opens r .session) calls .accepted ≡ length (entries (history I (I .opens r .session) calls))
-  pub awaiting : (r : Request) → I .opens r .answer ≡ O.Opened → (calls : List Call) → after I (I .opens r .session) calls .state ≡ Awaiting →
-      after I (I .opens r .session) calls .corrections ≡ agains 0 (history I (I .opens r .session) calls)
+  pub unsummed : (s : Session) (r : Request) → I .opens s r .answer ≡ O.Opened → (calls : List Call) →
+      Unsummed (origin r) (entries (history I (I .opens s r .session) calls))
+  pub same : (s t : Session) (q r : Request) → I .opens s q .answer ≡ O.Opened → I .opens t r .answer ≡ O.Opened → Alike q r → (calls others : List Call) →
+      samplesOf (entries (history I (I .opens s q .session) calls)) ≡ samplesOf (entries (history I (I .opens t r .session) others)) →
+      SamePoint I (after I (I .opens s q .session) calls) (after I (I .opens t r .session) others)
+  pub accepted : (s : Session) (r : Request) → I .opens s r .answer ≡ O.Opened → (calls : List Call) →
+      after I (I .opens s r .session) calls .accepted ≡ length (entries (history I (I .opens s r .session) calls))
+  pub awaiting : (s : Session) (r : Request) → I .opens s r .answer ≡ O.Opened → (calls : List Call) → after I (I .opens s r .session) calls .state ≡ Awaiting →
+      after I (I .opens s r .session) calls .corrections ≡ agains 0 (history I (I .opens s r .session) calls)
 
 -- the same of a session that rounds opened
 pub record OfStarts (I : Implementation) : Type 0 where
@@ -54,10 +60,10 @@ pub record OfStarts (I : Implementation) : Type 0 where
       after I (I .refines s floats .session) calls .state ≡ Awaiting →
       after I (I .refines s floats .session) calls .corrections ≡ agains 0 (history I (I .refines s floats .session) calls)
   -- alike an opening: the same p, point 0 and samples, whatever way each was made
-  pub same : (s : Session) (floats : List Float) (r : Request) → I .refines s floats .answer .outcome ≡ R.Opened → I .opens r .answer ≡ O.Opened →
+  pub same : (s t : Session) (floats : List Float) (r : Request) → I .refines s floats .answer .outcome ≡ R.Opened → I .opens t r .answer ≡ O.Opened →
       startOrigin s floats ≡ origin r → (calls others : List Call) →
-      samplesOf (entries (history I (I .refines s floats .session) calls)) ≡ samplesOf (entries (history I (I .opens r .session) others)) →
-      SamePoint I (after I (I .refines s floats .session) calls) (after I (I .opens r .session) others)
+      samplesOf (entries (history I (I .refines s floats .session) calls)) ≡ samplesOf (entries (history I (I .opens t r .session) others)) →
+      SamePoint I (after I (I .refines s floats .session) calls) (after I (I .opens t r .session) others)
   -- and alike another start
   pub sameStarts : (s t : Session) (xs ys : List Float) → I .refines s xs .answer .outcome ≡ R.Opened → I .refines t ys .answer .outcome ≡ R.Opened →
       startOrigin s xs ≡ startOrigin t ys → (calls others : List Call) →
@@ -103,21 +109,26 @@ pub record OurCalls : Type 0 where
   -- such is a record of which a tolerance or the limit is out of range
   pub badSettings : (s : Session) → ¬ Settings (s .tolerances) (s .limit) → (call : Call) → (step ours s call ≡ s) × (event ours s call ≡ refused7 call)
   -- after an `open` that was refused nothing is accepted, and the record stays closed and zero
-  pub unopened : (r : Request) → NotZero (openNumber ours r) → (calls : List Call) →
-      (after ours (ours .opens r .session) calls ≡ closedSession) × (entries (history ours (ours .opens r .session) calls) ≡ [])
+  pub unopened : (s : Session) (r : Request) → NotZero (openNumber ours s r) → (calls : List Call) →
+      (after ours (ours .opens s r .session) calls ≡ closedSession) × (entries (history ours (ours .opens s r .session) calls) ≡ [])
   -- after a first round that was refused the same
-  pub unstarted : (r : Request) → NotZero (startNumber ours r) → (calls : List Call) →
-      (after ours (ours .starts r .session) calls ≡ closedSession) × (entries (history ours (ours .starts r .session) calls) ≡ [])
+  pub unstarted : (s : Session) (r : Request) → NotZero (startNumber ours s r) → (calls : List Call) →
+      (after ours (ours .starts s r .session) calls ≡ closedSession) × (entries (history ours (ours .starts s r .session) calls) ≡ [])
+  -- what was opened, by an open or by rounds
+  pub ofOpenings : OfOpenings ours
+  pub ofStarts : OfStarts ours
+  -- and whatever record was there before
+  pub replaces : Replaces ours
 
 -- ---- any implementation
 
 pub record AnyCalls : Type 0 where
-  -- an `open` begins a history anew, whatever was done before
-  pub anew : (I : Implementation) (s : Session) (r : Request) (calls : List Call) (earlier : List Act) →
-      lived I s (map calling calls ++ opening r ∷ earlier) ≡ after I (I .opens r .session) calls
-  -- and so does a first round
-  pub anewStart : (I : Implementation) (s : Session) (r : Request) (calls : List Call) (earlier : List Act) →
-      lived I s (map calling calls ++ beginning r ∷ earlier) ≡ after I (I .starts r .session) calls
+  -- demands 1 and 2 ask that an open and a first round replace any earlier session, so they begin a history anew, whatever was done before
+  pub replaces : (I : Implementation) → Demand1 I → Demand2 I → Replaces I
+  pub anew : (I : Implementation) → Replaces I → (s t : Session) (r : Request) (calls : List Call) (earlier : List Act) →
+      lived I s (map calling calls ++ opening r ∷ earlier) ≡ after I (I .opens t r .session) calls
+  pub anewStart : (I : Implementation) → Replaces I → (s t : Session) (r : Request) (calls : List Call) (earlier : List Act) →
+      lived I s (map calling calls ++ beginning r ∷ earlier) ≡ after I (I .starts t r .session) calls
   -- what was opened begins at its origin, so the demands hold of it
   pub openings : (I : Implementation) → Demand3 I → Counts I → OfOpenings I
   pub starts : (I : Implementation) → Demand3 I → Counts I → OfStarts I
@@ -152,6 +163,10 @@ pub record TurnedDown : Type 0 where
   pub openingAnyhow2 : ¬ Demand2 openingAnyhow
   -- counts no round: the counts
   pub neverCountingCounts : ¬ Counts neverCounting
+  -- keeps the record that was there where it refuses an open, or a first round: demand 1, and that it replaces any earlier session
+  pub keeping1 : ¬ Demand1 keeping
+  pub keepingReplaces : ¬ Replaces keeping
+  pub keepingStarts1 : ¬ Demand1 keepingStarts
   -- looks at positions alone: demand 1's condition of 8, and demand 2; in rounds: demand 2
   pub ignoringVelocities1 : ¬ Demand1 ignoringVelocities
   pub ignoringVelocities2 : ¬ Demand2 ignoringVelocities

@@ -38,7 +38,7 @@ runBack a (suc j) s = backSums (runBack a j s) (a j)
 unfoldable pub newestSums : Axis → Sums
 newestSums a = record { first = a .first; before = exactOf (S2 a -ℤ S1 a) }
 
--- the position is S2 at j+1 steps before the newest and the series, the velocity S1 at j steps before it and the series
+-- the velocity adds its series to S1 of the point j steps back, the position its own to S2 of the point before that one
 unfoldable pub earlierMotion : ℕ → Axis → ℕ → Motion
 earlierMotion p a j =
     let s = runBack (at (a .samples)) j (newestSums a) in

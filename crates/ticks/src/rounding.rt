@@ -1,4 +1,4 @@
-// An f64 to the nearest whole tick, a tie to the even one, from its sign, exponent and fraction bits.
+// Rounds an f64 to whole ticks by its bits: sign, exponent and fraction. Halfway between two ticks it takes the even one.
 ghost use mathlib.Core.Path.{_≡_};
 ghost use Prim.Native.Nat.{_<_, _≤_, _^_};
 ghost use lib.Dec.{eqb};
