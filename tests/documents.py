@@ -27,7 +27,7 @@ from repository import Fault, Repository
 READ_FOR_NAMES = ("docs/INSPECTION.md", "docs/FORMS.md", "docs/EXCEPTIONS.md")
 EDITS = "edits that are refused"
 # what stands in backticks and is no name of the repository: words of the language, of the kit and of the C library
-NO_NAMES = {"&&", "&mut", "&[f64]", 'extern "C"', "requires", "LABEL", "read", "write", "positive", "lib.Ieee.Positive"}
+NO_NAMES = {"&&", "&mut", "&[f64]", "pub fn", "pub(crate) fn", 'extern "C"', "requires", "LABEL", "read", "write", "positive", "lib.Ieee.Positive"}
 
 QUOTED = re.compile(r"`([^`]+)`")
 # a path in backticks, and one in running text

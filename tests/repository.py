@@ -5,8 +5,8 @@ PARTS = ("src", "specs", "proofs", "must-fail")
 HEAD = r"^[ \t]*(?:pub |abbrev |unfoldable )*"
 # a definition in .antt; one in .rt, and a field or a variant of one
 LAW = re.compile(HEAD + r"(?:(?:record|data|ruleset) ([^\s({:]+)|([^\s(){}:;,]+) :(?=\s))", re.M)
-ITEM = re.compile(r'^ *(?:pub )?(?:extern "C" )?(fn|struct|enum|const|mod|type) (\w+)', re.M)
-MEMBER = re.compile(r"^    (?:pub (\w+): |([A-Z]\w*)(?:\(.*\))?,$)", re.M)
+ITEM = re.compile(r'^ *(?:pub(?:\(crate\))? )?(?:extern "C" )?(fn|struct|enum|const|mod|type) (\w+)', re.M)
+MEMBER = re.compile(r"^    (?:pub(?:\(crate\))? (\w+): |([A-Z]\w*)(?:\(.*\))?,$)", re.M)
 ENDING = re.compile(r"\.(?:rt|antt|edit|md|txt|sh|py|c|h|script|out)$")
 
 

@@ -1,8 +1,7 @@
 // The ordinate coefficients of the four formulas, times D: row p - 1 for p back points, the newest point first, unused places 0.
-// Each arm of a match asks for a row by its own number, so that the compiled code writes out that row and not the square.
+use crate::Formula;
 ghost use mathlib.Core.Path.{_≡_};
-ghost use Prim.Native.Nat.{_≤_};
-ghost use Rattle.coefficients.specs.Formulas.{row, positionPredictor, positionCorrector, velocityPredictor, velocityCorrector};
+ghost use Rattle.coefficients.specs.Formulas.{squareOf};
 
 const POSITION_PREDICTOR: [[i64; 9]; 9] = [
     [13305600, 0, 0, 0, 0, 0, 0, 0, 0],
@@ -66,24 +65,6 @@ const POSITION_PREDICTOR: [[i64; 9]; 9] = [
     ],
 ];
 
-pub fn position_predictor_row(p: usize) -> [i64; 9]
-    requires { ⌜ (1 ≤ p) × (p ≤ 9) ⌝ }
-    ensures { λ r. ⌜ r ≡ row positionPredictor p ⌝ }
-{
-    let square = POSITION_PREDICTOR;
-    match p {
-        1 => square[0],
-        2 => square[1],
-        3 => square[2],
-        4 => square[3],
-        5 => square[4],
-        6 => square[5],
-        7 => square[6],
-        8 => square[7],
-        _ => square[8],
-    }
-}
-
 const POSITION_CORRECTOR: [[i64; 9]; 9] = [
     [13305600, 0, 0, 0, 0, 0, 0, 0, 0],
     [13305600, 0, 0, 0, 0, 0, 0, 0, 0],
@@ -135,24 +116,6 @@ const POSITION_CORRECTOR: [[i64; 9]; 9] = [
         -330157,
     ],
 ];
-
-pub fn position_corrector_row(p: usize) -> [i64; 9]
-    requires { ⌜ (1 ≤ p) × (p ≤ 9) ⌝ }
-    ensures { λ r. ⌜ r ≡ row positionCorrector p ⌝ }
-{
-    let square = POSITION_CORRECTOR;
-    match p {
-        1 => square[0],
-        2 => square[1],
-        3 => square[2],
-        4 => square[3],
-        5 => square[4],
-        6 => square[5],
-        7 => square[6],
-        8 => square[7],
-        _ => square[8],
-    }
-}
 
 const VELOCITY_PREDICTOR: [[i64; 9]; 9] = [
     [79833600, 0, 0, 0, 0, 0, 0, 0, 0],
@@ -216,24 +179,6 @@ const VELOCITY_PREDICTOR: [[i64; 9]; 9] = [
     ],
 ];
 
-pub fn velocity_predictor_row(p: usize) -> [i64; 9]
-    requires { ⌜ (1 ≤ p) × (p ≤ 9) ⌝ }
-    ensures { λ r. ⌜ r ≡ row velocityPredictor p ⌝ }
-{
-    let square = VELOCITY_PREDICTOR;
-    match p {
-        1 => square[0],
-        2 => square[1],
-        3 => square[2],
-        4 => square[3],
-        5 => square[4],
-        6 => square[5],
-        7 => square[6],
-        8 => square[7],
-        _ => square[8],
-    }
-}
-
 const VELOCITY_CORRECTOR: [[i64; 9]; 9] = [
     [-79833600, 0, 0, 0, 0, 0, 0, 0, 0],
     [-93139200, 13305600, 0, 0, 0, 0, 0, 0, 0],
@@ -296,20 +241,14 @@ const VELOCITY_CORRECTOR: [[i64; 9]; 9] = [
     ],
 ];
 
-pub fn velocity_corrector_row(p: usize) -> [i64; 9]
-    requires { ⌜ (1 ≤ p) × (p ≤ 9) ⌝ }
-    ensures { λ r. ⌜ r ≡ row velocityCorrector p ⌝ }
+// A formula's square, whole: the nine rows that the rules give.
+pub fn square(which: Formula) -> [[i64; 9]; 9]
+    ensures { λ r. ⌜ r ≡ squareOf which ⌝ }
 {
-    let square = VELOCITY_CORRECTOR;
-    match p {
-        1 => square[0],
-        2 => square[1],
-        3 => square[2],
-        4 => square[3],
-        5 => square[4],
-        6 => square[5],
-        7 => square[6],
-        8 => square[7],
-        _ => square[8],
+    match which {
+        Formula::PositionPredictor => POSITION_PREDICTOR,
+        Formula::PositionCorrector => POSITION_CORRECTOR,
+        Formula::VelocityPredictor => VELOCITY_PREDICTOR,
+        Formula::VelocityCorrector => VELOCITY_CORRECTOR,
     }
 }

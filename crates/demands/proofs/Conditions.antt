@@ -11,33 +11,30 @@ use lib.Ieee.{Float, nan, inf, fin, up, down}
 use lib.Ieee.Nearest.{closest}
 use lib.ListN.{length}
 use Rattle.integers.specs.Tests.{not-true-iff}
-use Rattle.exact.specs.Numerator.{D}
 use Rattle.ticks.specs.declared.Rounded.{Rounded}
 use Rattle.ticks.specs.declared.Rounded.the-variants as R
 use Rattle.ticks.specs.Round.{limit, signed, roundedOf, isNotANumber, isInfinite, isTooLarge}
 use Rattle.ticks.specs.Samples.{any}
-use Rattle.axis.proofs.Sound.{placed-in-range}
 use Rattle.axis.specs.declared.Tolerances.{Tolerances}
 use Rattle.axis.specs.Kinds.{ofPosition, ofVelocity, toleranceOf}
 use Rattle.session.specs.declared.Point.{Point}
 use Rattle.session.specs.declared.Session.{Session}
-use Rattle.session.specs.Numbers.{pointsHold, settingsHold, mostPoints}
-use Rattle.session.specs.Moves.{estimateOf, pointInRange}
+use Rattle.session.specs.Numbers.{pointsHold, settingsHold}
+use Rattle.session.specs.Moves.{estimateOf}
 use Rattle.session.specs.Apart.{pointsAgree}
-use Rattle.session.specs.Ready.{PlacedPoint}
 use Rattle.session.specs.Values.{Value, value, sizeAt}
 use Rattle.session.proofs.Values.{of-each as each-kind, agree-iff}
-use Rattle.session.proofs.Rules.{points-hold, settings-hold, axes-in-range}
+use Rattle.session.proofs.Rules.{points-hold, settings-hold}
 use Rattle.steps.specs.Refusals.{full, agrees, isLast}
 use Rattle.rules.specs.Rules.{Decides}
-use Rattle.demands.specs.Refusals.{Some, SomePoints, NotFinite, TooLarge, Settings, Near, Within, Last, PlacedRound, RoundWithin, Even}
+use Rattle.demands.specs.Refusals.{Some, NotFinite, TooLarge, Near, Within, Last, RoundWithin, Even}
+use Rattle.demands.specs.Records.{SomePoints, Settings, perTick}
+use Rattle.demands.proofs.Ranges.{every}
 use Rattle.epoch_coefficients.specs.Formulas.{hasCentre}
 use Rattle.epoch_coefficients.proofs.Centre.{of-each}
 use Rattle.epoch_session.specs.declared.Round.{Round}
-use Rattle.epoch_session.specs.Rounds.{earlierPoint, everyBelow, roundInRange, roundsAgree}
+use Rattle.epoch_session.specs.Rounds.{earlierPoint, roundsAgree}
 use Rattle.epoch_session.specs.Records.{heldRound}
-use Rattle.epoch_session.proofs.Below.{every-at, every-more}
-use Rattle.epoch_session.proofs.Ready.{earlier-point-placed}
 use Rattle.rules.specs.Readings.{decides}
 
 -- ---- floats
@@ -106,14 +103,11 @@ unfit xs = rw (unfit-any xs) (any-decides (λ r. isNotANumber r || isInfinite r)
 pub large : (xs : List Float) → Decides (any isTooLarge xs) (Some TooLarge xs)
 large = any-decides isTooLarge TooLarge too-large
 
--- ---- points
-
-pub range : (q : Point) → (pointInRange q ≡ true → PlacedPoint q) → Decides (pointInRange q) (PlacedPoint q)
-range q f = decides (f, (λ h. axes-in-range q .1 (placed-in-range (q .x) (h .on-x), (placed-in-range (q .y) (h .on-y), placed-in-range (q .z) (h .on-z)))))
+-- ---- points that are near
 
 module _ (t : Tolerances) (q before : Point) where
-  near : Near t q before → (v : Value) → sizeAt q before v ≤ toleranceOf (v .kind) t * D
-  near h v = each-kind (λ kind. sizeAt q before (value kind (v .coordinate)) ≤ toleranceOf kind t * D) (h (v .coordinate) .0) (h (v .coordinate) .1) (v .kind)
+  near : Near t q before → (v : Value) → sizeAt q before v ≤ toleranceOf (v .kind) t * perTick
+  near h v = each-kind (λ kind. sizeAt q before (value kind (v .coordinate)) ≤ toleranceOf kind t * perTick) (h (v .coordinate) .0) (h (v .coordinate) .1) (v .kind)
 
   pub apart : Decides (pointsAgree t q before) (Near t q before)
   apart = decides (Iff·trans (agree-iff q before t) ((λ h k. (h (value ofPosition k), h (value ofVelocity k))), near))
@@ -133,9 +127,9 @@ enough floats p = decides (eqb-true (length floats) (3 * p), eq-eqb (length floa
 pub settings : (t : Tolerances) (limit : ℕ) → Decides (settingsHold t limit) (Settings t limit)
 settings t limit = decides (Iff·trans (settings-hold t limit) (Iff·and ((λ h. (h .position, h .velocity)), (λ h. record { position = h .0; velocity = h .1 })) Iff·rfl))
 
-pub room : (s : Session) → Decides (full s) (mostPoints ≤ s .accepted)
+pub room : (s : Session) → Decides (full s) (1000000 ≤ s .accepted)
 unfolding full
-room s = decides (leb-true mostPoints (s .accepted), le-leb mostPoints (s .accepted))
+room s = decides (leb-true 1000000 (s .accepted), le-leb 1000000 (s .accepted))
 
 pub is-last : (s : Session) → Decides (isLast s) (Last s)
 unfolding isLast
@@ -178,20 +172,6 @@ centred p h =
     by false e w = refl
 
 -- ---- every point of a round
-
-every-all : (test : ℕ → Bool) (n : ℕ) → ((j : ℕ) → j < n → test j ≡ true) → everyBelow n test ≡ true
-unfolding everyBelow
-every-all test zero h = refl
-every-all test (suc n) h = every-more test n (every-all test n (λ j l. h j (omega (arith, l)))) (h n (omega arith))
-
--- a test of each point decides a condition on each
-every : (test : ℕ → Bool) (A : ℕ → Type 0) → ((j : ℕ) → Decides (test j) (A j)) → (n : ℕ) → Decides (everyBelow n test) ((j : ℕ) → j < n → A j)
-every test A d n =
-    decides ((λ e j l. d j .yes .0 (every-at test n j l e)), (λ h. every-all test n (λ j l. d j .yes .1 (h j l))))
-
-pub round-range : (r : Round) → Decides (roundInRange r) (PlacedRound r)
-unfolding roundInRange
-round-range r = every (λ j. pointInRange (earlierPoint r j)) (λ j. PlacedPoint (earlierPoint r j)) (λ j. range (earlierPoint r j) (earlier-point-placed r j)) (r .points)
 
 pub rounds-apart : (s : Session) (r : Round) → Decides (roundsAgree (s .tolerances) r (heldRound s)) (RoundWithin s r)
 unfolding roundsAgree

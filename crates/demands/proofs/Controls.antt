@@ -1,5 +1,7 @@
 -- Each theorem applies to something: in the session of the figures H3 to H7 its hypotheses are met, by computing.
 use mathlib.Core.Path.{_≡_, refl, sym, ap, _∙_}
+use mathlib.Core.Logic.{inr}
+use mathlib.Core.Bool.{true}
 use mathlib.Core.List.{[]}
 use Prim.Native.Nat.{ℕ, _*_}
 use native.Mathlib.Omega.{arith}
@@ -16,18 +18,20 @@ use Rattle.ticks.specs.Samples.{wholeOf}
 use Rattle.session.specs.declared.Session.{Session}
 use Rattle.session.specs.Moves.{correctedPoint, settledAgain, closedSession}
 use Rattle.session.proofs.Rules.{resting}
-use Rattle.session.proofs.Kept.{closed-fails}
+use Rattle.session.specs.Holding.{holds}
 use Rattle.rules.specs.Rules.{NotZero, Unrefused}
+use Rattle.rules.specs.Readings.{surely}
 use Rattle.steps.specs.Steps.{predictOf, correctOf, withdrawOf}
 use Rattle.session.specs.Coordinates.{onX}
 use Rattle.demands.specs.Histories.{ours, predict, step, event, after, history, entries}
+use Rattle.demands.specs.Records.{SettledRecord, AwaitingRecord}
 use Rattle.demands.specs.Refusals.{Within, correctTable, withdrawTable}
 use Rattle.demands.specs.ClosedForm.{origin}
 use Rattle.demands.specs.Demands.{sample, secondDifference, SamePoint, Agree}
 use Rattle.demands.specs.BadVersions.{refusing}
 use Rattle.demands.specs.Theorems.{Alike, refused7}
 use Rattle.demands.proofs.Theorems.{our-calls, any-calls}
-use Rattle.demands.proofs.Rounds.{closed-not-starting}
+use Rattle.demands.proofs.Openings.{closed-unopen, closed-unstarted}
 use Rattle.demands.proofs.Opens.{number-is, open-begins}
 use Rattle.demands.proofs.Ours.{predict-number, correct-number, withdraw-number, correct-none, withdraw-none}
 use Rattle.demands.proofs.TurnedDown.{begins}
@@ -76,6 +80,20 @@ again =
 withdrawn : Unrefused (withdrawTable (waiting wide))
 withdrawn = withdraw-none (waiting wide) .0 (computed .withdraws)
 
+-- ---- records: settled where H4 and H5 are accepted, and awaiting after H3's prediction
+
+rests : SettledRecord settledOnce
+rests = our-calls .settledRecords settledOnce .yes .0 (computed .settledWide)
+
+rests-narrow : SettledRecord (after ours (start narrow) twice)
+rests-narrow = our-calls .settledRecords (after ours (start narrow) twice) .yes .0 (computed .settledNarrow)
+
+awaits : AwaitingRecord (waiting wide)
+awaits = surely (our-calls .awaitingRecords (waiting wide)) (withdrawn .0)
+
+open-awaits : holds (waiting wide) ≡ true
+open-awaits = our-calls .openRecords (waiting wide) .yes .1 (inr awaits)
+
 -- ---- demand 3: H7, where both sides are 23, and 18 for the velocity at point 1; H4 and H5 are opened alike and accept the same sample
 
 cowell : byDifferences (unsummedCowell 1) (sample (origin wide) onX two 2) ≡ pos (23 * D)
@@ -101,7 +119,7 @@ same-turned = our-calls .ofOpenings .same closedSession closedSession wide turni
 same-next : predictOf settledOnce .answer ≡ predictOf (after ours (start narrow) twice) .answer
 same-next =
     our-calls .sameNext (origin wide) (start wide) (start narrow) begins (open-begins narrow (computed .narrowly)) (computed .accepted0 ∙ sym (computed .accepted0Narrow)) (round []) twice
-    (computed .sampleWide ∙ sym (computed .sampleNarrow)) (computed .settledWide) (computed .settledNarrow)
+    (computed .sampleWide ∙ sym (computed .sampleNarrow)) rests rests-narrow
 
 -- ---- the counts: two points in H7, one correction in H5, none where H4 is settled
 
@@ -117,7 +135,7 @@ no-correction = our-calls .counts .settled (start wide) (begins .held) (round []
 -- ---- a closed record, an open that was refused, the opening samples, and two implementations
 
 refused-7 : (step ours closedSession predict ≡ closedSession) × (event ours closedSession predict ≡ refused7 predict)
-refused-7 = our-calls .closed closedSession closed-fails closed-not-starting predict
+refused-7 = our-calls .closed closedSession closed-unopen closed-unstarted predict
 
 -- H3's session with a velocity tolerance of one more than the widest
 tooWide : Session

@@ -36,6 +36,8 @@ use Rattle.demands.specs.Histories.{ours, Call, predict, correct, withdr
 use Rattle.demands.specs.ClosedForm.{Origin, Begins, originAt, Stands, Tells, Told}
 use Rattle.demands.proofs.Rounds.{not-starting, unrefined, unstarting}
 use Rattle.demands.proofs.Standing.{points-most, begun, settled-stands, awaiting-stands, accepted-stands, predicts, corrects}
+use Rattle.demands.proofs.Records.{open-record}
+use Rattle.demands.specs.Records.{OpenRecord}
 
 -- ---- an open record stays open
 
@@ -193,14 +195,14 @@ invariant o s b [] =
       told = tt;
       accepted = sym (add-zero (s .accepted));
       waiting = λ _. refl;
-      resting = rests s (b .held);
+      resting = rests s (open-record s .yes .1 (b .held));
     }
-invariant o s b (call ∷ calls) = one-more o (points-most o s b) (s .accepted) (s .corrections) (after ours s calls) (history ours s calls) (invariant o s b calls) (holds-after s (b .held) calls) call
+invariant o s b (call ∷ calls) = one-more o (points-most o s b) (s .accepted) (s .corrections) (after ours s calls) (history ours s calls) (invariant o s b calls) (holds-after s (open-record s .yes .1 (b .held)) calls) call
 
 -- ---- any record that is open begins at the point where it stands
 
 abbrev pub originOf : Session → Origin
 originOf s = originAt (s .points) (presentPoint s) (λ k. axisOf k s .samples)
 
-pub open-begins-itself : (s : Session) → holds s ≡ true → Begins (originOf s) s
+pub open-begins-itself : (s : Session) → OpenRecord s → Begins (originOf s) s
 open-begins-itself s h = record { held = h; points = refl; position = λ k. refl; velocity = λ k. refl; samples = λ k i l. refl }

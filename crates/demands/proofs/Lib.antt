@@ -1,5 +1,8 @@
 -- The demands, shown. `Theorems` collects what is shown.
+pub mod Ranges
 pub mod Conditions
+pub mod Fields
+pub mod Records
 pub mod Tables
 pub mod Standing
 pub mod Rounds
@@ -8,10 +11,13 @@ pub mod Cowell
 pub mod Alike
 pub mod Opens
 pub mod Ours
+pub mod Fractions
+pub mod RoundFractions
 pub mod Unique
 pub mod Openings
 pub mod Examples
 pub mod RoundExamples
+pub mod StartExamples
 pub mod RoundsTurnedDown
 pub mod TurnedDown
 pub mod Theorems

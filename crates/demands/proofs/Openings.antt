@@ -1,31 +1,25 @@
 -- Sessions by their openings: an open and a first round begin a history anew, what was opened begins at its origin, what was closed accepts nothing, and which calls
 -- a starting and an open record refuse.
 use mathlib.Core.Path.{_≡_, refl, sym, ap, _∙_, subst}
-use mathlib.Core.Bool.{true, false}
+use mathlib.Core.Logic.{⊎-elim}
 use mathlib.Core.List.{List, [], _∷_, _++_, map}
-use Prim.Native.Nat.{_+_, _≤_}
+use Prim.Native.Nat.{_+_}
 use native.Mathlib.Nat.{zero-add}
 use lib.Ieee.{Float}
 use lib.ListN.{length}
-use Rattle.integers.specs.Tests.{fails}
-use Rattle.axis.specs.Ready.{Tolerable}
 use Rattle.session.specs.declared.Session.{Session}
 use Rattle.session.specs.Moves.{closedSession}
-use Rattle.session.specs.Holding.{holds}
-use Rattle.session.proofs.Rules.{settings-hold, holding, counts-are}
-use Rattle.session.proofs.Rules as S
 use Rattle.session.proofs.Kept.{closed-fails}
 use Rattle.rules.specs.Rules.{NotZero}
 use Rattle.session.specs.Requests.{exactPoint, Request}
-use Rattle.epoch_session.specs.Records.{starting}
-use Rattle.epoch_session.proofs.Rules.{keeps-start}
 use Rattle.demands.specs.Histories.{Implementation, ours, Call, predict, correct, withdraw, refine, Event, step, event, after, history, Act, opening, beginning, calling, lived, entries, agains}
-use Rattle.demands.specs.Refusals.{Settings}
+use Rattle.demands.specs.Records.{Settings, OpenRecord, StartingRecord}
 use Rattle.demands.specs.ClosedForm.{Begins, originAt, origin, startOrigin}
 use Rattle.demands.specs.Demands.{openNumber, startNumber, Demand3, Counts}
 use Rattle.demands.specs.Theorems.{Alike, OfOpenings, OfStarts, refused7, Plain, Replaces}
 use Rattle.demands.proofs.Rounds.{not-open, not-starting, closed-not-starting, unopen, unstarting, first-closes}
 use Rattle.demands.proofs.Ours.{demand1}
+use Rattle.demands.proofs.Records.{open-record, starting-record}
 
 -- ---- any implementation
 
@@ -84,23 +78,17 @@ enters-none (correct a) es = refl
 enters-none withdraw es = refl
 enters-none (refine floats) es = refl
 
-pub closed : (s : Session) → holds s ≡ false → starting s ≡ false → (call : Call) → (step ours s call ≡ s) × (event ours s call ≡ refused7 call)
-closed s h f predict = unopen s h predict tt
-closed s h f (correct a) = unopen s h (correct a) tt
-closed s h f withdraw = unopen s h withdraw tt
-closed s h f (refine floats) = unstarting s f floats
+pub closed : (s : Session) → ¬ OpenRecord s → ¬ StartingRecord s → (call : Call) → (step ours s call ≡ s) × (event ours s call ≡ refused7 call)
+closed s h f predict = unopen s (open-record s .no .1 h) predict tt
+closed s h f (correct a) = unopen s (open-record s .no .1 h) (correct a) tt
+closed s h f withdraw = unopen s (open-record s .no .1 h) withdraw tt
+closed s h f (refine floats) = unstarting s (starting-record s .no .1 f) floats
 
 -- an open record and a starting one keep the numbers of the settings
 pub bad-settings : (s : Session) → ¬ Settings (s .tolerances) (s .limit) → (call : Call) → (step ours s call ≡ s) × (event ours s call ≡ refused7 call)
-bad-settings s n = closed s (fails (holds s) (λ t. n (kept (counts-are s (holding s t .rules .counts))))) (fails (starting s) (λ t. n (begun (settings-hold (s .tolerances) (s .limit) .0 (keeps-start s t .settings)))))
-  where
-    begun : Tolerable (s .tolerances) × ((1 ≤ s .limit) × (s .limit ≤ 8)) → Settings (s .tolerances) (s .limit)
-    begun (t, l) = ((t .position, t .velocity), l)
+bad-settings s n = closed s (⊎-elim (λ h. n (h .filled .settings)) (λ h. n (h .filled .settings))) (λ h. n (h .settings))
 
-    kept : S.Counts s → Settings (s .tolerances) (s .limit)
-    kept c = begun (c .tolerances, c .limit)
-
-module _ (s : Session) (h : holds s ≡ false) (f : starting s ≡ false) where
+module _ (s : Session) (h : ¬ OpenRecord s) (f : ¬ StartingRecord s) where
   stays : (calls : List Call) → after ours s calls ≡ s
   stays [] = refl
   stays (call ∷ calls) = ap (λ t. step ours t call) (stays calls) ∙ closed s h f call .0
@@ -114,10 +102,16 @@ module _ (s : Session) (h : holds s ≡ false) (f : starting s ≡ false) where
       ∙ accepts-none calls
 
 -- closed and zero
+pub closed-unopen : ¬ OpenRecord closedSession
+closed-unopen = open-record closedSession .no .0 closed-fails
+
+pub closed-unstarted : ¬ StartingRecord closedSession
+closed-unstarted = starting-record closedSession .no .0 closed-not-starting
+
 still-closed : (s : Session) → s ≡ closedSession → (calls : List Call) → (after ours s calls ≡ closedSession) × (entries (history ours s calls) ≡ [])
 still-closed s e calls = (
-  ap (λ s. after ours s calls) e ∙ stays closedSession closed-fails closed-not-starting calls,
-  ap (λ s. entries (history ours s calls)) e ∙ accepts-none closedSession closed-fails closed-not-starting calls,
+  ap (λ s. after ours s calls) e ∙ stays closedSession closed-unopen closed-unstarted calls,
+  ap (λ s. entries (history ours s calls)) e ∙ accepts-none closedSession closed-unopen closed-unstarted calls,
 )
 
 pub unopened : (s : Session) (r : Request) → NotZero (openNumber ours s r) → (calls : List Call) →
@@ -130,8 +124,8 @@ unstarted s r f = still-closed (ours .starts s r .session) (first-closes r f)
 
 -- ---- a starting record, and an open one
 
-pub waits : (s : Session) → starting s ≡ true → (call : Call) → Plain call → (step ours s call ≡ s) × (event ours s call ≡ refused7 call)
-waits s t = unopen s (not-open s t)
+pub waits : (s : Session) → StartingRecord s → (call : Call) → Plain call → (step ours s call ≡ s) × (event ours s call ≡ refused7 call)
+waits s h = unopen s (not-open s (starting-record s .yes .1 h))
 
-pub goes-on : (s : Session) → holds s ≡ true → (floats : List Float) → (step ours s (refine floats) ≡ s) × (event ours s (refine floats) ≡ refused7 (refine floats))
-goes-on s h = unstarting s (not-starting s h)
+pub goes-on : (s : Session) → OpenRecord s → (floats : List Float) → (step ours s (refine floats) ≡ s) × (event ours s (refine floats) ≡ refused7 (refine floats))
+goes-on s h = unstarting s (not-starting s (open-record s .yes .1 h))

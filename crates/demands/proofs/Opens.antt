@@ -1,5 +1,6 @@
 -- A successful `open` leaves a record that begins at the origin that was asked for, with no point accepted; and which float is which opening sample.
 use mathlib.Core.Path.{_≡_, refl, sym, ap, _∙_}
+use mathlib.Core.Logic.{inl}
 use Prim.Native.Nat.{ℕ, _+_, _*_, _-_, _<_}
 use native.Mathlib.Omega.{arith}
 use lib.ListN.{length, getD}
@@ -9,7 +10,6 @@ use Rattle.ticks.specs.Round.{roundedOf, ticksIn}
 use Rattle.axis.specs.Formulas.{places, openedAxis}
 use Rattle.session.specs.declared.Session.{Session}
 use Rattle.session.specs.Moves.{presentPoint, openedSession}
-use Rattle.session.proofs.Rules.{settled-holds}
 use Rattle.session.proofs.Present.{present-opened}
 use Rattle.steps.specs.declared.Opening.the-variants as O
 use Rattle.steps.specs.Answers.{openingAnswer}
@@ -24,6 +24,7 @@ use Rattle.steps.proofs.Refusals.{opened-range}
 use Rattle.demands.specs.Coordinates.{positionOf, velocityOf}
 use Rattle.session.specs.Coordinates.{Coordinate, onX, onY, onZ, axisOf}
 use Rattle.demands.specs.ClosedForm.{Begins, place, openingSamples, origin}
+use Rattle.demands.proofs.Records.{settled-record}
 
 module _ (r : Request) where
   abbrev session : Session
@@ -57,7 +58,7 @@ module _ (r : Request) where
     unfolding openedWith openedSession
     open-begins =
         record {
-          held = settled-holds (openOf r .session) (open-settles r not-refused);
+          held = inl (settled-record (openOf r .session) .yes .0 (open-settles r not-refused));
           points = ap (λ s. s .points) opened;
           position = λ k. ap (positionOf k) present;
           velocity = λ k. ap (velocityOf k) present;

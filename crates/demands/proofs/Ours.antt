@@ -7,7 +7,7 @@ use lib.Ieee.{Float}
 use Rattle.ticks.specs.declared.Sample.{Sample}
 use Rattle.ticks.specs.Samples.{wholeOf}
 use Rattle.session.specs.declared.Session.{Session}
-use Rattle.session.specs.Moves.{correctedPoint}
+use Rattle.session.specs.Moves.{correctedPoint, closedSession}
 use Rattle.epoch_session.specs.Rounds.{roundsAgree}
 use Rattle.epoch_session.specs.Records.{heldRound}
 use Rattle.rules.specs.Rules.{NotZero, Rule, distinct, Exactly, First, Unrefused}
@@ -20,7 +20,7 @@ use Rattle.epoch_steps.specs.Answers.{noPoints}
 use Rattle.epoch_steps.specs.Refusals.{laterRound, refineRefusal, startRefusal, firstRound}
 use Rattle.epoch_steps.specs.Steps.{startBy, startOf, judgedRound, refineBy, refineOf}
 use Rattle.epoch_steps.proofs.Left.{start-closes, refine-untouched, refine-closes}
-use Rattle.demands.specs.Histories.{ours}
+use Rattle.demands.specs.Histories.{ours, Call, step, after}
 use Rattle.demands.specs.Refusals.{openTable, predictTable, correctTable, withdrawTable, startTable, refineTable}
 use Rattle.demands.specs.Demands.{predictNumber, correctNumber, withdrawNumber, Demand1, Demand2, Formulas, Demand3, Counts, Leaves}
 use Rattle.demands.proofs.Opens.{number-is, open-begins, open-counts}
@@ -32,7 +32,9 @@ use Rattle.demands.proofs.Conditions.{agreement, rounds-apart}
 use Rattle.demands.proofs.Tables.{open-first, predict-first, correct-first, withdraw-first, start-first, refine-first}
 use Rattle.rules.specs.Readings.{first-exactly, first-none}
 use Rattle.epoch_steps.proofs.Refusals.{start-refuses}
-use mathlib.Core.Logic.{_↔_}
+use mathlib.Core.Logic.{_↔_, _⊎_, inl, inr, ⊎-elim}
+use Rattle.demands.proofs.Records.{open-record, starting-record}
+use Rattle.demands.specs.Records.{OpenRecord, StartingRecord}
 
 -- ---- the numbers that are answered
 
@@ -139,19 +141,24 @@ counts =
     record {
       opened = λ s. open-counts;
       openedRound = round-counts;
-      rounds = λ s. rounds-counted;
+      rounds = λ s r e calls h. rounds-counted r e calls (starting-record (after ours (ours .starts s r .session) calls) .yes .1 h);
       accepted = λ s h calls. invariant (originOf s) s (open-begins-itself s h) calls .accepted;
       awaiting = λ s h calls. invariant (originOf s) s (open-begins-itself s h) calls .waiting;
       settled = λ s h calls. invariant (originOf s) s (open-begins-itself s h) calls .resting;
     }
 
+left : (s : Session) (call : Call) → (step ours s call ≡ s) ⊎ (OpenRecord (step ours s call) ⊎ (StartingRecord (step ours s call) ⊎ (step ours s call ≡ closedSession)))
+left s call =
+    let t = step ours s call in
+    ⊎-elim inl (λ h. inr (⊎-elim (λ h. inl (open-record t .yes .0 h)) (λ h. inr (⊎-elim (λ h. inl (starting-record t .yes .0 h)) inr h)) h)) (leaves s call)
+
 pub leave : Leaves ours
 leave =
     record {
-      opens = λ s. open-leaves;
-      starts = λ s. first-leaves;
-      steps = leaves;
-      held = holds-after;
+      opens = λ s r. ⊎-elim inl (λ h. inr (open-record (openOf r .session) .yes .0 h)) (open-leaves r);
+      starts = λ s r. ⊎-elim inl (λ h. inr (starting-record (startOf r .session) .yes .0 h)) (first-leaves r);
+      steps = left;
+      held = λ s h calls. open-record (after ours s calls) .yes .0 (holds-after s (open-record s .yes .1 h) calls);
       stands = λ o s b calls. invariant o s b calls .stands;
       last = last;
     }

@@ -9,30 +9,28 @@ use Rattle.rules.specs.Rules.{firstOf}
 use Rattle.integers.specs.Differences.{byDifferences}
 use Rattle.exact.specs.Numerator.{D, exactOf, numerator, sameExact}
 use Rattle.coefficients.specs.Fraction.{times}
-use Rattle.coefficients.specs.Rules.{c, g, l, s, total, terms, next, divided}
+use Rattle.coefficients.specs.Rules.{c, l, total, terms, next, divided}
 use Rattle.coefficients.specs.Scaled.{run}
-use Rattle.coefficients.specs.Formulas.{positionCorrector, velocityCorrector, positionPredictor, velocityPredictor}
+use Rattle.coefficients.specs.Formulas.{positionCorrector, velocityCorrector}
 use Rattle.ticks.specs.Round.{roundedOf}
 use Rattle.ticks.specs.Samples.{any}
 use Rattle.epoch_coefficients.specs.Formulas.{lessBefore, cut, earlierPosition, earlierVelocity, hasCentre}
-use Rattle.axis.specs.Formulas.{motionOf, still, presentMotion, predictedMotion}
+use Rattle.axis.specs.Formulas.{motionOf, still}
 use Rattle.axis.specs.declared.Tolerances.{Tolerances}
-use Rattle.axis.specs.Estimates.{sameMotion, inRange}
+use Rattle.axis.specs.Estimates.{inRange}
 use Rattle.axis.specs.Agreement.{changeOf, sizes, agreesOn}
-use Rattle.axis.specs.Holding.{remaindersHold, samplesSmall, emptyZero, placesHold}
+use Rattle.axis.specs.Holding.{samplesSmall, emptyZero, placesHold}
 use Rattle.epoch_axis.specs.Formulas.{nextSums, backSums, runOn, runBack, newestSums, earlierMotion, centreSums, startedAxis}
 use Rattle.session.specs.declared.Session.{Session}
-use Rattle.session.specs.declared.State.the-variants.{Awaiting}
 use Rattle.session.specs.Numbers.{pointsHold, settingsHold}
-use Rattle.session.specs.Moves.{nowhere, presentPoint, estimateOf, predictedPoint, pointInRange, awaitingAt, closedSession}
+use Rattle.session.specs.Moves.{nowhere, estimateOf, pointInRange, closedSession}
 use Rattle.session.specs.Apart.{pointsAgree, pointChange}
-use Rattle.session.specs.Holding.{countsHold, samePoint, settledHolds, holds, settled}
 use Rattle.steps.specs.declared.Opening.the-variants as O
 use Rattle.steps.specs.Answers.{reportedMotion, reportedPoint, reportedChange, noPoint, noChange}
 use Rattle.session.specs.Requests.{exactPoint, Request}
 use Rattle.steps.specs.Opening.{axisSamples}
-use Rattle.steps.specs.Refusals.{openRefusal, full, predictRefusal, isLast}
-use Rattle.steps.specs.Steps.{openOf, predictOf}
+use Rattle.steps.specs.Refusals.{openRefusal, isLast}
+use Rattle.steps.specs.Steps.{openOf}
 use Rattle.epoch_session.specs.Rounds.{roundOf, earlierPoint, everyBelow, largestBelow, roundInRange, roundsAgree, largestMove}
 use Rattle.epoch_session.specs.Records.{heldRound, sumsZero, epochHolds, axisStarts, axesStart, startHolds, starting, startingAxis, startingSession, openedRound}
 use Rattle.epoch_steps.specs.declared.Outcome.{Outcome}
@@ -42,38 +40,38 @@ use Rattle.epoch_steps.specs.Refusals.{givenRound, startRefusal, laterRound, re
 use Rattle.epoch_steps.specs.Steps.{startOf, refineOf}
 use Rattle.demands.specs.Coordinates.{positionOf}
 use Rattle.session.specs.Coordinates.{onX}
-use Rattle.demands.specs.Histories.{ours, Call, predict, refine, after, history, agains, mores}
+use Rattle.demands.specs.Histories.{ours, Call, refine, after, history, mores}
 use Rattle.demands.specs.BadVersions.{openingAtOnce, openingAnyhow, neverCounting, ignoringVelocitiesOfRounds, keepingStarts}
 use Rattle.demands.proofs.Examples.{stateNumber}
 
 -- ---- the session
 
-abbrev float : ℤ → Float
+abbrev pub float : ℤ → Float
 float n = ofInt binary64 n
 
 -- three samples of n on x
 abbrev pub force : ℤ → List Float
 force n = float n ∷ float (pos 0) ∷ float (pos 0) ∷ float n ∷ float (pos 0) ∷ float (pos 0) ∷ float n ∷ float (pos 0) ∷ float (pos 0) ∷ []
 
--- a request with p and two tolerances, from a position and a velocity on x
-abbrev requested : ℕ → Tolerances → ℤ → ℤ → Request
-requested p tolerances x v =
-    record { points = p; tolerances = tolerances; limit = 2; point = record { x = x; y = pos 0; z = pos 0; vx = v; vy = pos 0; vz = pos 0 }; floats = force (pos 12) }
+-- a request with p and two tolerances, from a position and a velocity on x, with samples of n
+abbrev pub requested : ℕ → Tolerances → ℤ → ℤ → ℤ → Request
+requested p tolerances x v n =
+    record { points = p; tolerances = tolerances; limit = 2; point = record { x = x; y = pos 0; z = pos 0; vx = v; vy = pos 0; vz = pos 0 }; floats = force n }
 
 -- no position may move, and a velocity as far as any
 abbrev pub strict : Tolerances
 strict = record { position = 0; velocity = 1048576 }
 
 abbrev pub first : Request
-first = requested 3 strict (pos 1000) (pos 10)
+first = requested 3 strict (pos 1000) (pos 10) (pos 12)
 
 -- an even p
 abbrev pub even : Request
-even = requested 2 strict (pos 1000) (pos 10)
+even = requested 2 strict (pos 1000) (pos 10) (pos 12)
 
 -- what `open` is given at the point one step after the epoch, 1000 + 10 + 6 with velocity 10 + 12
 abbrev pub newest : Request
-newest = requested 3 strict (pos 1016) (pos 22)
+newest = requested 3 strict (pos 1016) (pos 22) (pos 12)
 
 -- after the first round, and after a later one that moved
 abbrev pub begun : Session
@@ -87,7 +85,7 @@ again = after ours begun moved
 
 -- the other way round: the velocities of the outer points move by 12 ticks and may by 11
 abbrev pub turning : Session
-turning = ours .starts closedSession (requested 3 (record { position = 1048576; velocity = 11 }) (pos 1000) (pos 10)) .session
+turning = ours .starts closedSession (requested 3 (record { position = 1048576; velocity = 11 }) (pos 1000) (pos 10) (pos 12)) .session
 
 -- ---- what the definitions compute there
 
@@ -114,9 +112,6 @@ pub record Computed : Type 0 where
   pub point0 : earlierPoint (laterRound begun (force (pos 12))) 0 ≡ exactPoint (newest .point)
   pub points : begun .points ≡ 3
   pub tolerances : begun .tolerances ≡ strict
-  -- and predicts there
-  pub awaits : after ours (refineOf begun (force (pos 12)) .session) (predict ∷ []) .state ≡ Awaiting
-  pub noAgains : agains 0 (history ours (refineOf begun (force (pos 12)) .session) (predict ∷ [])) ≡ 0
   -- a later round of 24 moves the newest point by 6 ticks
   pub far : natAbs (positionOf onX (earlierPoint (laterRound begun (force (pos 24))) 0) -ℤ positionOf onX (earlierPoint (heldRound begun) 0)) ≡ 6 * D
   -- the bad versions there
@@ -133,7 +128,7 @@ pub record Computed : Type 0 where
   pub countedOnce : mores 0 (history neverCounting begun moved) ≡ 1
 
 pub computed : Computed
-unfolding add div ofInt firstOf byDifferences exactOf numerator sameExact times c g l s total terms next divided run positionCorrector velocityCorrector roundedOf any motionOf still inRange changeOf sizes agreesOn samplesSmall emptyZero placesHold pointsHold settingsHold nowhere estimateOf pointInRange pointsAgree pointChange closedSession reportedMotion reportedPoint reportedChange noPoint noChange exactPoint axisSamples openRefusal openOf isLast full predictRefusal predictOf predictedPoint presentPoint predictedMotion presentMotion positionPredictor velocityPredictor awaitingAt sameMotion samePoint remaindersHold countsHold settledHolds holds settled lessBefore cut earlierPosition earlierVelocity hasCentre nextSums backSums runOn runBack newestSums earlierMotion centreSums startedAxis heldRound sumsZero epochHolds axisStarts axesStart startHolds starting startingAxis startingSession openedRound roundOf earlierPoint everyBelow largestBelow roundInRange roundsAgree largestMove pointsFrom roundPoints noPoints givenRound startRefusal laterRound refineRefusal startOf refineOf
+unfolding add div ofInt firstOf byDifferences exactOf numerator sameExact times c l total terms next divided run positionCorrector velocityCorrector roundedOf any motionOf still inRange changeOf sizes agreesOn samplesSmall emptyZero placesHold pointsHold settingsHold nowhere estimateOf pointInRange pointsAgree pointChange closedSession reportedMotion reportedPoint reportedChange noPoint noChange exactPoint axisSamples openRefusal openOf isLast lessBefore cut earlierPosition earlierVelocity hasCentre nextSums backSums runOn runBack newestSums earlierMotion centreSums startedAxis heldRound sumsZero epochHolds axisStarts axesStart startHolds starting startingAxis startingSession openedRound roundOf earlierPoint everyBelow largestBelow roundInRange roundsAgree largestMove pointsFrom roundPoints noPoints givenRound startRefusal laterRound refineRefusal startOf refineOf
 computed =
     record {
       unrefused = refl;
@@ -151,8 +146,6 @@ computed =
       point0 = refl;
       points = refl;
       tolerances = refl;
-      awaits = refl;
-      noAgains = refl;
       far = refl;
       atOnce = refl;
       atOnceState = refl;

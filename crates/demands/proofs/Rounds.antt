@@ -37,6 +37,7 @@ use Rattle.demands.specs.ClosedForm.{Begins, place, startOrigin}
 use Rattle.demands.specs.Demands.{refineNumber}
 use Rattle.demands.specs.Theorems.{refused7, Plain}
 use Rattle.epoch_steps.specs.Answers.{roundAnswer}
+use Rattle.demands.proofs.Records.{settled-record}
 
 -- ---- no record is open and starting
 
@@ -92,7 +93,7 @@ module _ (s : Session) (floats : List Float) (e : refineOf s floats .answer .out
   pub round-begins : Begins (startOrigin s floats) (refineOf s floats .session)
   round-begins =
       record {
-        held = settled-holds (refineOf s floats .session) (opened-settled s floats e);
+        held = inl (settled-record (refineOf s floats .session) .yes .0 (opened-settled s floats e));
         points = opened-at s floats e .points;
         position = λ k. ap (positionOf k) (opened-at s floats e .present);
         velocity = λ k. ap (velocityOf k) (opened-at s floats e .present);

@@ -5,12 +5,12 @@ use Prim.Native.Nat.{_*_, _≤_, _<_}
 use native.Mathlib.Omega.{arith}
 use lib.IntN.{pos}
 use Rattle.exact.specs.Numerator.{D}
-use Rattle.epoch_session.proofs.Rules.{keeps-start}
 use Rattle.epoch_steps.specs.Refusals.{laterRound}
 use Rattle.epoch_steps.proofs.Left.{later-points}
 use Rattle.session.specs.Coordinates.{onX}
 use Rattle.rules.specs.Rules.{Unrefused}
 use Rattle.demands.specs.Refusals.{RoundWithin, startTable, refineTable}
+use Rattle.demands.specs.Histories.{after}
 use Rattle.demands.specs.Demands.{Demand2, Counts, Leaves, Demand1}
 use Rattle.demands.specs.BadVersions.{openingAtOnce, openingAnyhow, neverCounting, ignoringVelocitiesOfRounds, keepingStarts}
 use Rattle.demands.proofs.Rounds.{start-number}
@@ -19,6 +19,7 @@ use Rattle.demands.proofs.Examples.{stateNumber}
 use Rattle.demands.proofs.RoundExamples.{force, first, begun, moved, turning, kind, computed, even}
 use Rattle.demands.proofs.Conditions.{rounds-apart}
 use Rattle.session.specs.Moves.{closedSession}
+use Rattle.demands.proofs.Records.{starting-record}
 
 -- ---- no rule refuses the first round, nor a later one
 
@@ -46,7 +47,7 @@ openingAtOnce2 d = omega (arith, sym (ap kind (computed .atOnce)) ∙ ap (λ a. 
 pub openingAtOnceLeaves : ¬ Leaves openingAtOnce
 openingAtOnceLeaves d =
     ⊎-elim (λ e. omega (arith, sym (computed .atOnceState) ∙ ap (λ s. stateNumber (s .state)) e ∙ computed .closedState))
-    (λ t. omega (arith, sym (computed .atOnceState) ∙ ap stateNumber (keeps-start (openingAtOnce .starts closedSession first .session) t .state)))
+    (λ t. omega (arith, sym (computed .atOnceState) ∙ ap stateNumber (t .state)))
     (d .starts closedSession first)
 
 -- ---- opens at any later round, also where a point moved
@@ -66,7 +67,7 @@ ignoringVelocitiesOfRounds2 d =
 
 pub neverCountingCounts : ¬ Counts neverCounting
 neverCountingCounts d =
-    omega (arith, sym (computed .notCounted) ∙ d .rounds closedSession first (start-number first ∙ computed .unrefused) moved (computed .stillStarting) ∙ computed .countedOnce)
+    omega (arith, sym (computed .notCounted) ∙ d .rounds closedSession first (start-number first ∙ computed .unrefused) moved (starting-record (after neverCounting begun moved) .yes .0 (computed .stillStarting)) ∙ computed .countedOnce)
 
 -- ---- keeps the record that was there where it refuses a first round: starting where it must be closed
 

@@ -19,12 +19,12 @@ use Rattle.axis.specs.Estimates.{estimating}
 use Rattle.session.specs.declared.Point.{Point}
 use Rattle.session.specs.declared.Session.{Session}
 use Rattle.session.specs.Moves.{presentPoint, predictedPoint, correctedPoint, settledAgain, awaitingAt, acceptedAt}
-use Rattle.session.proofs.Rules.{holding, counts-are}
 use Rattle.steps.specs.Answers.{reportedMotion, reportedPoint}
 use Rattle.demands.specs.Coordinates.{reportedOn}
 use Rattle.session.specs.Coordinates.{onX, onY, onZ, Coordinate, axisOf, ticksOn, motionOn}
 use Rattle.demands.specs.ClosedForm.{Origin, Begins, samples, firstSum, secondBefore, secondSum, positionAt, velocityAt, nextPosition, nextVelocity, Stands, Carries, Predicts, Corrects}
 use Rattle.session.proofs.Coordinates.{settled-axis, awaiting-axis, accepted-axis, present-on, predicted-on, corrected-on}
+use Rattle.demands.proofs.Records.{open-filled}
 
 -- ---- motions by their numerators
 
@@ -79,7 +79,7 @@ module _ (o : Origin) (ws : List WholeSample) (s : Session) (small : o .points �
 
 -- ---- the answers
 
-reported-on : (q : Point) (k : Coordinate) → reportedOn k (reportedPoint q) ≡ reportedMotion (motionOn k q)
+pub reported-on : (q : Point) (k : Coordinate) → reportedOn k (reportedPoint q) ≡ reportedMotion (motionOn k q)
 unfolding reportedPoint
 reported-on q onX = refl
 reported-on q onY = refl
@@ -104,7 +104,7 @@ module _ (o : Origin) (ws : List WholeSample) (s : Session) (small : o .points �
 -- ---- at the beginning
 
 pub points-most : (o : Origin) (s : Session) → Begins o s → o .points ≤ 9
-points-most o s b = let h = counts-are s (holding s (b .held) .rules .counts) .points in omega (arith, h .1, b .points)
+points-most o s b = let h = open-filled s (b .held) .points in omega (arith, h .1, b .points)
 
 module _ (o : Origin) (s : Session) (b : Begins o s) (k : Coordinate) where
   begun-sum : (f : Formula) → byDifferences (weightsOf f (s .points)) (at (axisOf k s .samples)) ≡ byDifferences (weightsOf f (o .points)) (at (o .samples k))

@@ -2,20 +2,18 @@
 use mathlib.Core.List.{List}
 use lib.Ieee.{Float}
 use Rattle.rules.specs.Rules.{Decided, First}
-use Rattle.rules.specs.Readings.{itself, opposite, both, surely, none-left, by-itself, and-then, and-also, first-decided}
+use Rattle.rules.specs.Readings.{opposite, both, surely, none-left, by-itself, and-then, and-also, first-decided}
 use Rattle.ticks.specs.declared.Sample.{Sample}
 use Rattle.ticks.specs.Samples.{axesOf, wholeOf}
 use Rattle.session.specs.declared.Session.{Session}
-use Rattle.session.specs.Moves.{predictedPoint, correctedPoint}
-use Rattle.session.specs.Holding.{settled, awaiting}
-use Rattle.session.specs.Requests.{Request, exactPoint}
-use Rattle.session.proofs.Kept.{predicted-point-placed, corrected-point-placed}
-use Rattle.epoch_session.specs.Records.{starting}
+use Rattle.session.specs.Moves.{correctedPoint}
+use Rattle.session.specs.Requests.{Request}
 use Rattle.steps.specs.Refusals.{sampleRules, openRules, openRefusal, predictRules, predictRefusal, correctRules, correctRefusal, withdrawRules, withdrawRefusal}
-use Rattle.steps.proofs.Given.{exact-point-placed}
 use Rattle.epoch_steps.specs.Refusals.{firstRound, startRules, startRefusal, laterRound, refineRules, refineRefusal}
 use Rattle.demands.specs.Refusals.{sampleTable, openTable, predictTable, correctTable, withdrawTable, startTable, refineTable}
-use Rattle.demands.proofs.Conditions.{unfit, large, range, agreement, some-points, enough, settings, room, is-last, centred, round-range, rounds-apart}
+use Rattle.demands.proofs.Conditions.{unfit, large, agreement, some-points, enough, settings, room, is-last, centred, rounds-apart}
+use Rattle.demands.proofs.Ranges.{exact-range, predicted-range, corrected-range, track-range}
+use Rattle.demands.proofs.Records.{settled-record, awaiting-record, starting-record}
 
 -- ---- the tests decide the statements
 
@@ -27,27 +25,27 @@ open-decided r =
     by-itself (opposite (some-points (r .points)))
     (by-itself (opposite (enough (r .floats) (r .points)))
     (by-itself (opposite (settings (r .tolerances) (r .limit)))
-    (by-itself (opposite (range (exactPoint (r .point)) (exact-point-placed (r .point))))
+    (by-itself (opposite (exact-range (r .point)))
     (samples-decided (r .floats)))))
 
 predict-decided : (s : Session) → Decided (predictRules s) (predictTable s)
 predict-decided s =
-    by-itself (opposite (itself (settled s)))
+    by-itself (opposite (settled-record s))
     (by-itself (room s)
-    (by-itself (opposite (range (predictedPoint s) (predicted-point-placed s)))
+    (by-itself (opposite (predicted-range s))
     none-left))
 
 correct-decided : (s : Session) (a : Sample) → Decided (correctRules s a) (correctTable s a)
 correct-decided s a =
     let q = correctedPoint s (wholeOf a) in
-    by-itself (opposite (itself (awaiting s)))
+    by-itself (opposite (awaiting-record s))
     (and-also (samples-decided (axesOf a))
-    (by-itself (opposite (range q (corrected-point-placed s (wholeOf a))))
+    (by-itself (opposite (corrected-range s (wholeOf a)))
     (by-itself (both (opposite (agreement s q)) (is-last s))
     none-left)))
 
 withdraw-decided : (s : Session) → Decided (withdrawRules s) (withdrawTable s)
-withdraw-decided s = by-itself (opposite (itself (awaiting s))) none-left
+withdraw-decided s = by-itself (opposite (awaiting-record s)) none-left
 
 -- whether there is a centre is asked of 1 to 9 points only
 start-decided : (r : Request) → Decided (startRules r) (startTable r)
@@ -56,18 +54,18 @@ start-decided r =
     by-itself (centred (r .points) (surely (some-points (r .points)) some))
     (by-itself (opposite (enough (r .floats) (r .points)))
     (by-itself (opposite (settings (r .tolerances) (r .limit)))
-    (by-itself (opposite (range (exactPoint (r .point)) (exact-point-placed (r .point))))
+    (by-itself (opposite (exact-range (r .point)))
     (and-also (samples-decided (r .floats))
-    (by-itself (opposite (round-range (firstRound r)))
+    (by-itself (opposite (track-range (firstRound r)))
     none-left))))))
 
 refine-decided : (s : Session) (floats : List Float) → Decided (refineRules s floats) (refineTable s floats)
 refine-decided s floats =
     let round = laterRound s floats in
-    by-itself (opposite (itself (starting s)))
+    by-itself (opposite (starting-record s))
     (by-itself (opposite (enough floats (s .points)))
     (and-also (samples-decided floats)
-    (by-itself (opposite (round-range round))
+    (by-itself (opposite (track-range round))
     (by-itself (both (opposite (rounds-apart s round)) (is-last s))
     none-left))))
 

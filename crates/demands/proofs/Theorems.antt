@@ -1,9 +1,11 @@
 -- What is proved, collected.
-use Rattle.demands.specs.Histories.{ours}
+use Rattle.demands.specs.Histories.{ours, after}
 use Rattle.demands.specs.Theorems.{OurCalls, AnyCalls, TurnedDown}
+use Rattle.demands.proofs.Records.{open-record, settled-record, awaiting-record, starting-record}
 use Rattle.demands.proofs.Ours.{demand1, demand2, formulas, demand3, counts, leave}
 use Rattle.demands.proofs.Cowell.{in-ticks}
 use Rattle.demands.proofs.Alike.{same-next}
+use Rattle.demands.proofs.RoundFractions.{in-fractions}
 use Rattle.demands.proofs.Opens.{opening-sample}
 use Rattle.demands.proofs.Openings.{anew, anew-start, of-openings, of-starts, closed, bad-settings, unopened, unstarted, waits, goes-on}
 use Rattle.demands.proofs.Unique as U
@@ -18,8 +20,13 @@ our-calls =
       demand3 = demand3;
       counts = counts;
       leaves = leave;
+      inFractions = in-fractions;
       inTicks = in-ticks;
-      sameNext = λ o s t b d m calls others e f g. same-next o s t b d calls others e m f g;
+      sameNext = λ o s t b d m calls others e f g. same-next o s t b d calls others e m (settled-record (after ours s calls) .yes .1 f) (settled-record (after ours t others) .yes .1 g);
+      openRecords = open-record;
+      settledRecords = settled-record;
+      awaitingRecords = awaiting-record;
+      startingRecords = starting-record;
       waits = waits;
       goesOn = goes-on;
       closed = closed;

@@ -1,7 +1,6 @@
 -- Where a session begins, and what its record holds and its answers tell after any accepted samples: a function of the two alone.
 -- Positions, velocities and sums are numerators over D; lists of samples have the latest first. Definitions only.
 use mathlib.Core.Path.{_≡_}
-use mathlib.Core.Bool.{true}
 use mathlib.Core.List.{List, [], _∷_}
 use Prim.Native.Nat.{ℕ, _<_}
 use lib.IntN.{ℤ, _+ℤ_, _-ℤ_}
@@ -14,7 +13,6 @@ use Rattle.axis.specs.Formulas.{S1, S2, ticks}
 use Rattle.session.specs.declared.Session.{Session}
 use Rattle.session.specs.declared.Point.{Point}
 use Rattle.session.specs.Moves.{presentPoint}
-use Rattle.session.specs.Holding.{holds}
 use Rattle.steps.specs.declared.ReportedPoint.{ReportedPoint}
 use Rattle.steps.specs.declared.Prediction.the-variants as P
 use Rattle.steps.specs.declared.Correction.the-variants as C
@@ -24,6 +22,7 @@ use Rattle.epoch_session.specs.Rounds.{earlierPoint}
 use Rattle.epoch_steps.specs.Refusals.{laterRound}
 use Rattle.demands.specs.Coordinates.{positionOf, velocityOf, positionIn, velocityIn}
 use Rattle.session.specs.Coordinates.{Coordinate, onX, onY, onZ, axisOf, ticksOn}
+use Rattle.demands.specs.Records.{OpenRecord}
 use Rattle.demands.specs.Histories.{Event, predicting, correcting, withdrawing, refining, entries, samplesOf}
 
 -- ---- an opening, whatever way it was made: p, the exact position and velocity of point 0, and the samples a(0), a(-1), .., a(1-p)
@@ -36,7 +35,7 @@ pub record Origin : Type 0 where
 
 -- an open record that stands at that point and keeps those samples
 pub record Begins (o : Origin) (s : Session) : Type 0 where
-  pub held : holds s ≡ true
+  pub held : OpenRecord s
   pub points : s .points ≡ o .points
   pub position : (k : Coordinate) → positionOf k (presentPoint s) ≡ o .position k
   pub velocity : (k : Coordinate) → velocityOf k (presentPoint s) ≡ o .velocity k

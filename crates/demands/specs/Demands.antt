@@ -1,6 +1,5 @@
 -- The three demands of the order, and the counts, of any implementation of the six calls. Definitions only.
 use mathlib.Core.Path.{_≡_}
-use mathlib.Core.Bool.{true}
 use mathlib.Core.Logic.{_⊎_}
 use mathlib.Core.List.{List, [], _∷_}
 use Prim.Native.Nat.{ℕ, _+_, _-_, _≤_}
@@ -17,7 +16,6 @@ use Rattle.ticks.specs.Samples.{wholeOf}
 use Rattle.session.specs.declared.Session.{Session}
 use Rattle.session.specs.declared.State.the-variants.{Settled, Awaiting}
 use Rattle.session.specs.Moves.{presentPoint, predictedPoint, correctedPoint, estimateOf, settledAgain, awaitingAt, acceptedAt, closedSession}
-use Rattle.session.specs.Holding.{holds}
 use Rattle.steps.specs.declared.ReportedPoint.{ReportedPoint}
 use Rattle.steps.specs.declared.Opening.the-variants as O
 use Rattle.steps.specs.declared.Prediction.the-variants as P
@@ -29,7 +27,7 @@ use Rattle.session.specs.Requests.{exactPoint, Request}
 use Rattle.steps.specs.Opening.{openedWith}
 use Rattle.steps.specs.Refusals.{largestChange}
 use Rattle.epoch_session.specs.Rounds.{largestMove}
-use Rattle.epoch_session.specs.Records.{heldRound, starting, openedRound}
+use Rattle.epoch_session.specs.Records.{heldRound, openedRound}
 use Rattle.epoch_steps.specs.declared.Outcome.the-variants as R
 use Rattle.epoch_steps.specs.Answers.{noPoints, roundAnswer}
 use Rattle.epoch_steps.specs.Refusals.{firstRound, laterRound}
@@ -37,6 +35,7 @@ use Rattle.epoch_steps.specs.Steps.{told, startingFrom}
 use Rattle.demands.specs.Coordinates.{positionOf, velocityOf, positionIn, velocityIn}
 use Rattle.session.specs.Coordinates.{Coordinate}
 use Rattle.demands.specs.Histories.{Implementation, Call, after, history, step, Entry, entries, samplesOf, agains, mores}
+use Rattle.demands.specs.Records.{OpenRecord, StartingRecord}
 use Rattle.demands.specs.Refusals.{Within, RoundWithin, openTable, predictTable, correctTable, withdrawTable, startTable, refineTable}
 use Rattle.demands.specs.ClosedForm.{Origin, Begins, origin, startOrigin, samples, Stands, Told}
 
@@ -186,26 +185,26 @@ pub record Counts (I : Implementation) : Type 0 where
   pub openedRound : (s : Session) (floats : List Float) → I .refines s floats .answer .outcome ≡ R.Opened →
       (I .refines s floats .session .accepted ≡ 0) × (I .refines s floats .session .corrections ≡ 0)
   -- while a session is starting: the later rounds that asked for more
-  pub rounds : (s : Session) (r : Request) → startNumber I s r ≡ 0 → (calls : List Call) → starting (after I (I .starts s r .session) calls) ≡ true →
+  pub rounds : (s : Session) (r : Request) → startNumber I s r ≡ 0 → (calls : List Call) → StartingRecord (after I (I .starts s r .session) calls) →
       after I (I .starts s r .session) calls .corrections ≡ mores 0 (history I (I .starts s r .session) calls)
   -- one more for each answer *accepted*
-  pub accepted : (s : Session) → holds s ≡ true → (calls : List Call) → after I s calls .accepted ≡ s .accepted + length (entries (history I s calls))
+  pub accepted : (s : Session) → OpenRecord s → (calls : List Call) → after I s calls .accepted ≡ s .accepted + length (entries (history I s calls))
   -- while a correction is awaited, the answers *again* since the last prediction; else none
-  pub awaiting : (s : Session) → holds s ≡ true → (calls : List Call) → after I s calls .state ≡ Awaiting →
+  pub awaiting : (s : Session) → OpenRecord s → (calls : List Call) → after I s calls .state ≡ Awaiting →
       after I s calls .corrections ≡ agains (s .corrections) (history I s calls)
-  pub settled : (s : Session) → holds s ≡ true → (calls : List Call) → after I s calls .state ≡ Settled → after I s calls .corrections ≡ 0
+  pub settled : (s : Session) → OpenRecord s → (calls : List Call) → after I s calls .state ≡ Settled → after I s calls .corrections ≡ 0
 
 -- ---- what any calls leave
 
 pub record Leaves (I : Implementation) : Type 0 where
   -- an open leaves a record that is closed and zero, or open, a first round one that is closed and zero, or starting; another call leaves it untouched, open,
   -- starting, or closed and zero
-  pub opens : (s : Session) (r : Request) → (I .opens s r .session ≡ closedSession) ⊎ (holds (I .opens s r .session) ≡ true)
-  pub starts : (s : Session) (r : Request) → (I .starts s r .session ≡ closedSession) ⊎ (starting (I .starts s r .session) ≡ true)
+  pub opens : (s : Session) (r : Request) → (I .opens s r .session ≡ closedSession) ⊎ OpenRecord (I .opens s r .session)
+  pub starts : (s : Session) (r : Request) → (I .starts s r .session ≡ closedSession) ⊎ StartingRecord (I .starts s r .session)
   pub steps : (s : Session) (call : Call) →
-      (step I s call ≡ s) ⊎ ((holds (step I s call) ≡ true) ⊎ ((starting (step I s call) ≡ true) ⊎ (step I s call ≡ closedSession)))
+      (step I s call ≡ s) ⊎ (OpenRecord (step I s call) ⊎ (StartingRecord (step I s call) ⊎ (step I s call ≡ closedSession)))
   -- an open record stays open; its sums and samples are those of its beginning and the accepted samples, and it stands at the last accepted point
-  pub held : (s : Session) → holds s ≡ true → (calls : List Call) → holds (after I s calls) ≡ true
+  pub held : (s : Session) → OpenRecord s → (calls : List Call) → OpenRecord (after I s calls)
   pub stands : (o : Origin) (s : Session) → Begins o s → (calls : List Call) → Stands o (samplesOf (entries (history I s calls))) (after I s calls)
   pub last : (o : Origin) (s : Session) → Begins o s → (calls : List Call) (k : Coordinate) →
       let es = entries (history I s calls) in

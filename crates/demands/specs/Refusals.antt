@@ -1,6 +1,5 @@
 -- The paper's table of refusals, a list for each call in its order, with the conditions as statements. Definitions only.
 use mathlib.Core.Path.{_≡_}
-use mathlib.Core.Bool.{true}
 use mathlib.Core.Logic.{_⊎_}
 use mathlib.Core.List.{List, [], _∷_, _++_}
 use Prim.Native.Nat.{ℕ, _+_, _*_, _^_, _≤_, _<_}
@@ -8,24 +7,21 @@ use lib.IntN.{natAbs, _-ℤ_}
 use lib.Ieee.{Float, nan, inf, fin, up, down}
 use lib.Ieee.Nearest.{closest}
 use lib.ListN.{length}
-use Rattle.exact.specs.Numerator.{D}
 use Rattle.ticks.specs.declared.Sample.{Sample}
 use Rattle.ticks.specs.Samples.{axesOf, wholeOf}
 use Rattle.axis.specs.declared.Tolerances.{Tolerances}
 use Rattle.session.specs.declared.Point.{Point}
 use Rattle.session.specs.declared.Session.{Session}
-use Rattle.session.specs.Numbers.{mostPoints}
 use Rattle.session.specs.Moves.{estimateOf, predictedPoint, correctedPoint}
-use Rattle.session.specs.Holding.{settled, awaiting}
-use Rattle.session.specs.Ready.{PlacedPoint}
 use Rattle.rules.specs.Rules.{Rule, rule}
 use Rattle.session.specs.Requests.{Request, exactPoint}
 use Rattle.epoch_session.specs.declared.Round.{Round}
 use Rattle.epoch_session.specs.Rounds.{earlierPoint}
-use Rattle.epoch_session.specs.Records.{heldRound, starting}
+use Rattle.epoch_session.specs.Records.{heldRound}
 use Rattle.epoch_steps.specs.Refusals.{firstRound, laterRound}
 use Rattle.demands.specs.Coordinates.{positionOf, velocityOf}
 use Rattle.session.specs.Coordinates.{Coordinate}
+use Rattle.demands.specs.Records.{SomePoints, Settings, perTick, InRange, TrackInRange, SettledRecord, AwaitingRecord, StartingRecord}
 
 -- ---- the conditions that need a word of their own
 
@@ -45,18 +41,11 @@ TooLarge nan = ⊥
 TooLarge (inf s) = ⊥
 TooLarge (fin s m e) = 2 ^ 28 < closest (m * up e) (down e)
 
--- p is 1 to 9; each of the two tolerances is at most 1,048,576, and the limit 1 to 8
-abbrev pub SomePoints : ℕ → Type 0
-SomePoints p = (1 ≤ p) × (p ≤ 9)
-
-abbrev pub Settings : Tolerances → ℕ → Type 0
-Settings t limit = ((t .position ≤ 1048576) × (t .velocity ≤ 1048576)) × ((1 ≤ limit) × (limit ≤ 8))
-
 -- exact changes, all six: on no axis has the position moved by more than the one tolerance, or the velocity by more than the other
 abbrev pub Near : Tolerances → Point → Point → Type 0
 Near t q before =
     (k : Coordinate) →
-    (natAbs (positionOf k q -ℤ positionOf k before) ≤ t .position * D) × (natAbs (velocityOf k q -ℤ velocityOf k before) ≤ t .velocity * D)
+    (natAbs (positionOf k q -ℤ positionOf k before) ≤ t .position * perTick) × (natAbs (velocityOf k q -ℤ velocityOf k before) ≤ t .velocity * perTick)
 
 -- a corrected point, from the last estimate
 abbrev pub Within : Session → Point → Type 0
@@ -66,10 +55,6 @@ Within s q = Near (s .tolerances) q (estimateOf s)
 abbrev pub Last : Session → Type 0
 Last s = s .limit ≤ s .corrections + 1
 
--- every point of a round is in range
-abbrev pub PlacedRound : Round → Type 0
-PlacedRound r = (j : ℕ) → j < r .points → PlacedPoint (earlierPoint r j)
-
 -- every point of a round, from the round that the record holds
 abbrev pub RoundWithin : Session → Round → Type 0
 RoundWithin s r = (j : ℕ) → j < r .points → Near (s .tolerances) (earlierPoint r j) (earlierPoint (heldRound s) j)
@@ -78,7 +63,7 @@ RoundWithin s r = (j : ℕ) → j < r .points → Near (s .tolerances) (earlierP
 abbrev pub Even : ℕ → Type 0
 Even p = (m : ℕ) × (p ≡ m + m)
 
--- ---- the tables. `PlacedPoint`: -2^52 ≤ position < 2^52 and -2^40 ≤ velocity < 2^40 on every axis
+-- ---- the tables
 
 -- samples: all of them are looked at for 4 before any is for 5
 abbrev pub sampleTable : List Float → List Rule
@@ -92,26 +77,26 @@ openTable r =
     rule 1 (¬ SomePoints (r .points))
     ∷ rule 2 (¬ (length (r .floats) ≡ 3 * r .points))
     ∷ rule 3 (¬ Settings (r .tolerances) (r .limit))
-    ∷ rule 6 (¬ PlacedPoint (exactPoint (r .point)))
+    ∷ rule 6 (¬ InRange (exactPoint (r .point)))
     ∷ sampleTable (r .floats)
 
 abbrev pub predictTable : Session → List Rule
 predictTable s =
-    rule 7 (¬ (settled s ≡ true))
-    ∷ rule 9 (mostPoints ≤ s .accepted)
-    ∷ rule 6 (¬ PlacedPoint (predictedPoint s))
+    rule 7 (¬ SettledRecord s)
+    ∷ rule 9 (1000000 ≤ s .accepted)
+    ∷ rule 6 (¬ InRange (predictedPoint s))
     ∷ []
 
 abbrev pub correctTable : Session → Sample → List Rule
 correctTable s a =
-    rule 7 (¬ (awaiting s ≡ true))
+    rule 7 (¬ AwaitingRecord s)
     ∷ (sampleTable (axesOf a)
-    ++ rule 6 (¬ PlacedPoint (correctedPoint s (wholeOf a)))
+    ++ rule 6 (¬ InRange (correctedPoint s (wholeOf a)))
     ∷ rule 8 ((¬ Within s (correctedPoint s (wholeOf a))) × Last s)
     ∷ [])
 
 abbrev pub withdrawTable : Session → List Rule
-withdrawTable s = rule 7 (¬ (awaiting s ≡ true)) ∷ []
+withdrawTable s = rule 7 (¬ AwaitingRecord s) ∷ []
 
 -- a first round: as an open, with 10 after 1, and 6 for a point that was worked out at the end
 abbrev pub startTable : Request → List Rule
@@ -120,17 +105,17 @@ startTable r =
     ∷ rule 10 (Even (r .points) ⊎ (r .points ≡ 1))
     ∷ rule 2 (¬ (length (r .floats) ≡ 3 * r .points))
     ∷ rule 3 (¬ Settings (r .tolerances) (r .limit))
-    ∷ rule 6 (¬ PlacedPoint (exactPoint (r .point)))
+    ∷ rule 6 (¬ InRange (exactPoint (r .point)))
     ∷ (sampleTable (r .floats)
-    ++ rule 6 (¬ PlacedRound (firstRound r))
+    ++ rule 6 (¬ TrackInRange (firstRound r))
     ∷ [])
 
 -- a later round
 abbrev pub refineTable : Session → List Float → List Rule
 refineTable s floats =
-    rule 7 (¬ (starting s ≡ true))
+    rule 7 (¬ StartingRecord s)
     ∷ rule 2 (¬ (length floats ≡ 3 * s .points))
     ∷ (sampleTable floats
-    ++ rule 6 (¬ PlacedRound (laterRound s floats))
+    ++ rule 6 (¬ TrackInRange (laterRound s floats))
     ∷ rule 8 ((¬ RoundWithin s (laterRound s floats)) × Last s)
     ∷ [])

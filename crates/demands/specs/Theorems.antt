@@ -1,6 +1,5 @@
 -- What is proved, as one record of statements: `proofs/Theorems.antt` has a proof of each.
 use mathlib.Core.Path.{_≡_}
-use mathlib.Core.Bool.{true, false}
 use mathlib.Core.List.{List, [], _∷_, _++_, map}
 use Prim.Native.Nat.{ℕ, _+_, _*_, _-_, _<_}
 use lib.Ieee.{Float}
@@ -10,21 +9,22 @@ use Rattle.ticks.specs.Round.{roundedOf, ticksIn}
 use Rattle.session.specs.declared.Session.{Session}
 use Rattle.session.specs.declared.State.the-variants.{Awaiting}
 use Rattle.session.specs.Moves.{closedSession}
-use Rattle.session.specs.Holding.{holds, settled}
+use Rattle.session.specs.Holding.{holds, settled, awaiting}
 use Rattle.steps.specs.declared.Opening.the-variants as O
 use Rattle.steps.specs.declared.Prediction.the-variants as P
 use Rattle.steps.specs.declared.Correction.the-variants as C
 use Rattle.steps.specs.declared.Withdrawal.the-variants as W
-use Rattle.rules.specs.Rules.{NotZero}
+use Rattle.rules.specs.Rules.{NotZero, Decides}
 use Rattle.epoch_session.specs.Records.{starting}
 use Rattle.epoch_steps.specs.declared.Outcome.the-variants as R
 use Rattle.epoch_steps.specs.Steps.{refused}
 use Rattle.session.specs.Coordinates.{Coordinate}
 use Rattle.session.specs.Requests.{Request}
 use Rattle.demands.specs.Histories.{Implementation, ours, Call, predict, correct, withdraw, refine, Event, predicting, correcting, withdrawing, refining, step, event, after, history, Act, opening, beginning, calling, lived, entries, samplesOf, agains}
-use Rattle.demands.specs.Refusals.{Settings}
+use Rattle.demands.specs.Records.{Settings, SettledRecord, AwaitingRecord, OpenRecord, StartingRecord}
 use Rattle.demands.specs.ClosedForm.{Origin, Begins, place, openingSamples, origin, startOrigin}
 use Rattle.demands.specs.Demands.{openNumber, startNumber, Demand1, Demand2, Formulas, Unsummed, UnsummedInTicks, SamePoint, Demand3, Counts, Leaves, Agree}
+use Rattle.demands.specs.Fractions.{InFractions}
 use Rattle.demands.specs.BadVersions.{refusing, predictingZero, unmoving, repeating, inventingPoints, inventingCorrections, openingAtOnce, openingAnyhow, neverCounting, keeping, keepingStarts, ignoringVelocities, ignoringVelocitiesOfRounds}
 
 -- opened alike: with one p, at one point, and with floats that round alike; nothing is said of the tolerances and the limit
@@ -94,18 +94,24 @@ pub record OurCalls : Type 0 where
   pub demand3 : Demand3 ours
   pub counts : Counts ours
   pub leaves : Leaves ours
-  -- and in fractions of a tick
+  -- and in fractions of a tick: demand 2, also of the points of rounds, and demand 3
+  pub inFractions : InFractions ours
   pub inTicks : (o : Origin) (s : Session) → Begins o s → (calls : List Call) → UnsummedInTicks o (entries (history ours s calls))
   -- where two sessions that began alike are both settled, with as many points accepted, the next prediction is answered alike, also where it is refused
   pub sameNext : (o : Origin) (s t : Session) → Begins o s → Begins o t → s .accepted ≡ t .accepted → (calls others : List Call) →
       samplesOf (entries (history ours s calls)) ≡ samplesOf (entries (history ours t others)) →
-      settled (after ours s calls) ≡ true → settled (after ours t others) ≡ true →
+      SettledRecord (after ours s calls) → SettledRecord (after ours t others) →
       ours .predicts (after ours s calls) .answer ≡ ours .predicts (after ours t others) .answer
+  -- our tests of a record are true exactly where it is what the paper calls open, settled, awaiting or starting
+  pub openRecords : (s : Session) → Decides (holds s) (OpenRecord s)
+  pub settledRecords : (s : Session) → Decides (settled s) (SettledRecord s)
+  pub awaitingRecords : (s : Session) → Decides (awaiting s) (AwaitingRecord s)
+  pub startingRecords : (s : Session) → Decides (starting s) (StartingRecord s)
   -- a starting record is refused with 7 by every call but a round, and untouched; an open one by a later round
-  pub waits : (s : Session) → starting s ≡ true → (call : Call) → Plain call → (step ours s call ≡ s) × (event ours s call ≡ refused7 call)
-  pub goesOn : (s : Session) → holds s ≡ true → (floats : List Float) → (step ours s (refine floats) ≡ s) × (event ours s (refine floats) ≡ refused7 (refine floats))
-  -- a record that counts as closed is refused with 7 by every call but `open` and a first round, and untouched
-  pub closed : (s : Session) → holds s ≡ false → starting s ≡ false → (call : Call) → (step ours s call ≡ s) × (event ours s call ≡ refused7 call)
+  pub waits : (s : Session) → StartingRecord s → (call : Call) → Plain call → (step ours s call ≡ s) × (event ours s call ≡ refused7 call)
+  pub goesOn : (s : Session) → OpenRecord s → (floats : List Float) → (step ours s (refine floats) ≡ s) × (event ours s (refine floats) ≡ refused7 (refine floats))
+  -- a record that is neither counts as closed: it is refused with 7 by every call but `open` and a first round, and untouched
+  pub closed : (s : Session) → ¬ OpenRecord s → ¬ StartingRecord s → (call : Call) → (step ours s call ≡ s) × (event ours s call ≡ refused7 call)
   -- such is a record of which a tolerance or the limit is out of range
   pub badSettings : (s : Session) → ¬ Settings (s .tolerances) (s .limit) → (call : Call) → (step ours s call ≡ s) × (event ours s call ≡ refused7 call)
   -- after an `open` that was refused nothing is accepted, and the record stays closed and zero

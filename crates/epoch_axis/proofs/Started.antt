@@ -1,8 +1,8 @@
 -- An axis that an epoch in range starts over small samples is ready, and holds where its newest point is in range.
-use mathlib.Core.Path.{_≡_, sym, ap, _∙_}
+use mathlib.Core.Path.{_≡_, refl, sym, ap, _∙_}
 use mathlib.Core.Bool.{true}
 use mathlib.Core.List.{List}
-use Prim.Native.Nat.{ℕ, _^_, _≤_, _<_}
+use Prim.Native.Nat.{ℕ, _+_, _*_, _^_, _≤_, _<_}
 use native.Mathlib.Omega.{arith}
 use lib.IntN.{ℤ}
 use Rattle.integers.specs.Differences.{at}
@@ -10,7 +10,7 @@ use Rattle.exact.specs.Bounds.{wider, widen, sum-within, lowered-bounded}
 use Rattle.coefficients.specs.Formulas.{Small}
 use Rattle.coefficients.specs.declared.Formula.the-variants.{PositionCorrector, VelocityCorrector}
 use Rattle.epoch_coefficients.specs.Formulas.{hasCentre, earlierPosition, earlierVelocity}
-use Rattle.epoch_coefficients.proofs.Centre.{at-least-3, at-most-9}
+use Rattle.epoch_coefficients.proofs.Centre.{of-each, at-least-3, at-most-9}
 use Rattle.epoch_coefficients.proofs.Rows.{position-light, velocity-light, fits}
 use Rattle.axis.specs.declared.Motion.{Motion}
 use Rattle.axis.specs.Formulas.{still}
@@ -24,11 +24,15 @@ use Rattle.epoch_axis.specs.Formulas.{runOn, earlierMotion, centre, cent
 use Rattle.epoch_axis.proofs.Room.{Room, at-first, run-on-room}
 use Rattle.epoch_axis.proofs.Kept.{newest}
 
+-- as many points stand before the centre as after it
+pub centre-amid : (p : ℕ) → hasCentre p ≡ true → 2 * centre p + 1 ≡ p
+centre-amid p h = of-each (λ p. 2 * centre p + 1 ≡ p) refl refl refl refl p h
+
 pub centre-below : (p : ℕ) → hasCentre p ≡ true → centre p < p
-centre-below p h = omega (arith, at-least-3 h)
+centre-below p h = omega (arith, centre-amid p h)
 
 pub centre-near : (p : ℕ) → hasCentre p ≡ true → centre p ≤ 4
-centre-near p h = omega (arith, at-most-9 h)
+centre-near p h = omega (arith, centre-amid p h, at-most-9 h)
 
 module _ (p : ℕ) (epoch : Motion) (xs : List ℤ) (h : hasCentre p ≡ true) (m : Placed epoch) (small : Small xs) where
   pub centre-room : Room (2 ^ 41) (2 ^ 53) 0 (centreSums p epoch xs)

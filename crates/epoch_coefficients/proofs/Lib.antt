@@ -3,4 +3,5 @@ pub mod Rows
 pub mod Tied
 pub mod Times
 pub mod Cut
+pub mod Applied
 pub mod Printed

@@ -1,19 +1,18 @@
 -- Every printed figure of document 000's Tables 2.3 and 2.4 is the coefficient of the series: D times it is held against the list, by one computed test for each table.
-use mathlib.Core.Path.{_≡_, refl, sym, _∙_, ap, subst}
-use mathlib.Core.Bool.{Bool, true}
-use mathlib.Core.List.{List, []}
+use mathlib.Core.Path.{refl, sym, subst}
+use mathlib.Core.Bool.{Bool}
+use mathlib.Core.List.{List}
 use Prim.Native.Nat.{ℕ, _<_}
-use native.Mathlib.Nat.{zero-add}
 use lib.Dec.{lit≤}
 use lib.IntN.{pos, _*ℤ_}
-use lib.ListN.{take, replicate, getD-replicate}
+use lib.ListN.{take}
 use Rattle.integers.specs.Differences.{at}
 use Rattle.integers.specs.Tests.{eqℤ-true}
 use Rattle.exact.specs.Numerator.{D}
 use Rattle.coefficients.specs.Fraction.{Fraction, denominator, _over_, _≐_, same}
 use Rattle.coefficients.specs.declared.Formula.{Formula}
 use Rattle.coefficients.specs.declared.Formula.the-variants.{PositionCorrector, VelocityCorrector}
-use Rattle.coefficients.proofs.Table.{listed, entry, passes}
+use Rattle.coefficients.proofs.Table.{Everywhere, throughout}
 use Rattle.coefficients.proofs.Written.{written, weights-written}
 use Rattle.epoch_coefficients.specs.Series.{positionSeries, velocitySeries}
 use Rattle.epoch_coefficients.specs.Formulas.{lessBefore, cut, earlierPosition, earlierVelocity}
@@ -27,7 +26,7 @@ abbrev agrees : Formula → List (List Fraction) → ℕ → ℕ → Bool
 agrees f t j k = same (at (cut j (take 9 (written f))) k over D) (figure t j k)
 
 abbrev Agrees : Formula → List (List Fraction) → Type 0
-Agrees f t = replicate 9 (replicate 9 true) ≡ listed (λ j. listed (agrees f t j) 0 9) 0 9
+Agrees f t = Everywhere (agrees f t) 9 (λ j. 9)
 
 position-agrees : Agrees PositionCorrector positionPrinted
 unfolding written cut lessBefore positionPrinted
@@ -38,16 +37,10 @@ unfolding written cut lessBefore velocityPrinted
 velocity-agrees = refl
 
 module _ (f : Formula) (t : List (List Fraction)) (e : Agrees f t) (j k : ℕ) (h : j < 9) (b : k < 9) where
-  agrees-at : agrees f t j k ≡ true
-  agrees-at =
-      let row : replicate 9 true ≡ listed (agrees f t j) 0 9 =
-      sym (getD-replicate 9 j (replicate 9 true) [] h) ∙ entry (λ n. listed (agrees f t n) 0 9) 0 9 [] e j h ∙ ap (λ n. listed (agrees f t n) 0 9) (zero-add j) in
-      ap (agrees f t j) (sym (zero-add k)) ∙ passes (agrees f t j) 0 9 row k b
-
   figure-times : Times D (figure t j k) (at (earlierOf f j 9) k)
   figure-times =
       subst (λ ws. Times D (figure t j k) (at (cut j ws) k)) (sym (weights-written f 9))
-      (record { across = eqℤ-true (at (cut j (take 9 (written f))) k *ℤ pos (denominator (figure t j k))) (figure t j k .top *ℤ pos D) agrees-at })
+      (record { across = eqℤ-true (at (cut j (take 9 (written f))) k *ℤ pos (denominator (figure t j k))) (figure t j k .top *ℤ pos D) (throughout (agrees f t) 9 (λ j. 9) e j k h b) })
 
 module _ (j k : ℕ) (h : j < 9) (b : k < 9) where
   pub position-printed : figure positionPrinted j k ≐ positionSeries j k

@@ -13,15 +13,15 @@ use mir.Syntax.{w64}
 use mir.Val.{SFits}
 use Rattle.integers.specs.Differences.{bySamples, byDifferences, ordinates, spread, sizes, size-of-sum}
 use Rattle.integers.specs.Size.{sfits-of-size}
-use Rattle.coefficients.specs.Formulas.{row, weightsOf, heaviest, largest}
+use Rattle.coefficients.specs.Formulas.{row, listed, weightsOf, heaviest, largest}
 use Rattle.coefficients.specs.declared.Formula.{Formula}
 use Rattle.coefficients.specs.declared.Formula.the-variants.{PositionCorrector, VelocityCorrector}
-use Rattle.coefficients.proofs.Table.{listed, entry, passes}
+use Rattle.coefficients.proofs.Table.{entry, Everywhere, throughout}
 use Rattle.coefficients.proofs.Written.{written, weights-written}
 use Rattle.coefficients.proofs.Rows.{length-weights, row-law, used-law}
 use Rattle.coefficients.proofs.Bounds.{below}
 use Rattle.epoch_coefficients.specs.Formulas.{lessBefore, cut, hasCentre}
-use Rattle.epoch_coefficients.proofs.Centre.{of-each, at-most-9}
+use Rattle.epoch_coefficients.proofs.Centre.{at-most-9}
 
 -- of a corrector, for j steps before the newest point
 abbrev pub earlierOf : Formula → ℕ → ℕ → List ℤ
@@ -44,27 +44,20 @@ listed-row f k e {p} {j} h l = entry (writtenRow f k) 0 k [] e j (omega arith) �
 abbrev light : Formula → ℕ → ℕ → Bool
 light f p j = ltb (sizes (writtenRow f p j)) heaviest
 
-abbrev AllLight : Formula → ℕ → Type 0
-AllLight f p = replicate p true ≡ listed (light f p) 0 p
-
-pub record Light (f : Formula) : Type 0 where
-  of-3 : AllLight f 3
-  of-5 : AllLight f 5
-  of-7 : AllLight f 7
-  of-9 : AllLight f 9
+-- those of every p to 9, at each of its points
+abbrev pub Light : Formula → Type 0
+Light f = Everywhere (light f) 10 (λ p. p)
 
 pub position-light : Light PositionCorrector
 unfolding sizes ordinates spread written cut lessBefore
-position-light = record { of-3 = refl; of-5 = refl; of-7 = refl; of-9 = refl }
+position-light = refl
 
 pub velocity-light : Light VelocityCorrector
 unfolding sizes ordinates spread written cut lessBefore
-velocity-light = record { of-3 = refl; of-5 = refl; of-7 = refl; of-9 = refl }
+velocity-light = refl
 
-pub bounded : (f : Formula) → Light f → {p j : ℕ} → hasCentre p ≡ true → j < p → sizes (row (earlierOf f j) p) < heaviest
-bounded f w {p} {j} h l =
-    rw (row-written f p j)
-    (ltb-true (sizes (writtenRow f p j)) heaviest (ap (light f p) (sym (zero-add j)) ∙ passes (light f p) 0 p (of-each (AllLight f) (w .of-3) (w .of-5) (w .of-7) (w .of-9) p h) j l))
+pub bounded : (f : Formula) → Light f → {p j : ℕ} → p ≤ 9 → j < p → sizes (row (earlierOf f j) p) < heaviest
+bounded f w {p} {j} h l = rw (row-written f p j) (ltb-true (sizes (writtenRow f p j)) heaviest (throughout (light f) 10 (λ p. p) w p j (omega arith) l))
 
 -- ---- what they come to
 
@@ -86,4 +79,4 @@ pub fits : (f : Formula) → Light f → {p j : ℕ} → hasCentre p ≡ true �
 fits f w {p} {j} h l x small =
     sfits-of-size
     (rw (← (row-law (earlierOf f j) p x))
-    (lt-of-le-of-lt (size-of-sum (row (earlierOf f j) p) x small) (below (sizes (row (earlierOf f j) p)) (bounded f w h l))))
+    (lt-of-le-of-lt (size-of-sum (row (earlierOf f j) p) x small) (below (sizes (row (earlierOf f j) p)) (bounded f w (at-most-9 h) l))))

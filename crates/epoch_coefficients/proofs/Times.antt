@@ -2,10 +2,10 @@
 use mathlib.Core.Path.{_≡_, refl, sym, _∙_, ap}
 use Prim.Native.Nat.{ℕ, _<_}
 use native.Mathlib.Omega.{arith}
-use lib.IntN.{ℤ, pos, natAbs, _+ℤ_, _*ℤ_, zero-*ℤ}
+use lib.IntN.{ℤ, pos, negℤ, natAbs, _+ℤ_, _*ℤ_, zero-*ℤ}
 use Rattle.integers.specs.Order.{*ℤ-cancel-right}
 use Rattle.integers.specs.Solver.{atom, terms, ring}
-use Rattle.coefficients.specs.Fraction.{Fraction, denominator, _over_, _⊕_, _⊗_, _≐_}
+use Rattle.coefficients.specs.Fraction.{Fraction, denominator, _over_, _⊕_, _⊗_, _≐_, negate}
 use Rattle.coefficients.proofs.Fractions.{below-line}
 
 pub record Times (d : ℕ) (q : Fraction) (u : ℤ) : Type 0 where
@@ -40,6 +40,25 @@ module _ {d : ℕ} {q : Fraction} {u : ℤ} where
 
       together : (a t d : ℤ) → a *ℤ (t *ℤ d) ≡ a *ℤ t *ℤ d
       together a t d = rw (atom 0 a, atom 1 t, atom 2 d) (simp terms (ring _ _ refl))
+
+module _ {d : ℕ} {q : Fraction} {u : ℤ} where
+  pub by-whole : (a : ℤ) → Times d q u → Times d (q ⊗ a over 1) (u *ℤ a)
+  by-whole a e =
+      record {
+        across = ap (λ n. u *ℤ a *ℤ pos n) (below-line (q .less) 0) ∙ apart a u (pos (denominator q)) ∙ ap (λ z. z *ℤ a) (e .across) ∙ together a (q .top) (pos d);
+      }
+    where
+      apart : (a u n : ℤ) → u *ℤ a *ℤ (n *ℤ pos 1) ≡ u *ℤ n *ℤ a
+      apart a u n = rw (atom 0 a, atom 1 u, atom 2 n) (simp terms (ring _ _ refl))
+
+      together : (a t d : ℤ) → t *ℤ d *ℤ a ≡ t *ℤ a *ℤ d
+      together a t d = rw (atom 0 a, atom 1 t, atom 2 d) (simp terms (ring _ _ refl))
+
+  pub negated : Times d q u → Times d (negate q) (negℤ u)
+  negated e = record { across = apart u (pos (denominator q)) ∙ ap negℤ (e .across) ∙ sym (apart (q .top) (pos d)) }
+    where
+      apart : (a n : ℤ) → negℤ a *ℤ n ≡ negℤ (a *ℤ n)
+      apart a n = rw (atom 0 a, atom 1 n) (simp terms (ring _ _ refl))
 
 pub none : {d : ℕ} (q : Fraction) → Times d (pos 0 over 1 ⊗ q) (pos 0)
 none {d} q = record { across = zero-*ℤ (pos (denominator (pos 0 over 1 ⊗ q))) ∙ sym (ap (λ z. z *ℤ pos d) (zero-*ℤ (q .top)) ∙ zero-*ℤ (pos d)) }

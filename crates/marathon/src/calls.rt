@@ -6,24 +6,24 @@ use steps::Withdrawal;
 use ticks::Sample;
 
 // Answers of each kind, and how often an answer was another than it should be or a formula did not hold.
-pub struct Seen {
-    pub accepted: u64,
-    pub again: u64,
-    pub withdrawn: u64,
-    pub failed: u64,
+pub(crate) struct Seen {
+    pub(crate) accepted: u64,
+    pub(crate) again: u64,
+    pub(crate) withdrawn: u64,
+    pub(crate) failed: u64,
 }
 
-pub struct Host {
-    pub session: Session,
-    pub seen: Seen,
+pub(crate) struct Host {
+    pub(crate) session: Session,
+    pub(crate) seen: Seen,
 }
 
-pub struct Corrected {
-    pub host: Host,
-    pub answer: Correction,
+pub(crate) struct Corrected {
+    pub(crate) host: Host,
+    pub(crate) answer: Correction,
 }
 
-pub fn nothing_seen() -> Seen {
+pub(crate) fn nothing_seen() -> Seen {
     Seen {
         accepted: 0,
         again: 0,
@@ -54,13 +54,13 @@ fn with_withdrawn(s: Seen) -> Seen {
     seen
 }
 
-pub fn with_failed(s: Seen) -> Seen {
+pub(crate) fn with_failed(s: Seen) -> Seen {
     let mut seen = s;
     seen.failed = more(seen.failed);
     seen
 }
 
-pub fn predict(h: Host) -> Host {
+pub(crate) fn predict(h: Host) -> Host {
     let after = stepper::owned::predict(h.session);
     let answer = after.answer;
     let session = after.session;
@@ -71,7 +71,7 @@ pub fn predict(h: Host) -> Host {
     Host { session, seen }
 }
 
-pub fn withdraw(h: Host) -> Host {
+pub(crate) fn withdraw(h: Host) -> Host {
     let after = stepper::owned::withdraw(h.session);
     let answer = after.answer;
     let session = after.session;
@@ -82,7 +82,7 @@ pub fn withdraw(h: Host) -> Host {
     Host { session, seen }
 }
 
-pub fn correct(h: Host, a: Sample) -> Corrected {
+pub(crate) fn correct(h: Host, a: Sample) -> Corrected {
     let after = stepper::owned::correct(h.session, a);
     let answer = after.answer;
     let session = after.session;
@@ -96,7 +96,7 @@ pub fn correct(h: Host, a: Sample) -> Corrected {
 }
 
 // The number that a prediction is refused by, and 0 if it is not.
-pub fn refused_prediction(s: Session) -> u64 {
+pub(crate) fn refused_prediction(s: Session) -> u64 {
     let after = stepper::owned::predict(s);
     let answer = after.answer;
     match answer {

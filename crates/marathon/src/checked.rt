@@ -4,12 +4,12 @@ ghost use Prim.Native.Nat.{_^_};
 ghost use lib.Dec.{leb};
 ghost use lib.IntN.{natAbs};
 
-pub struct Checked {
-    pub value: i64,
-    pub good: bool,
+pub(crate) struct Checked {
+    pub(crate) value: i64,
+    pub(crate) good: bool,
 }
 
-pub fn known(value: i64) -> Checked {
+pub(crate) fn known(value: i64) -> Checked {
     Checked { value, good: true }
 }
 
@@ -81,19 +81,19 @@ fn made(of: Checked, first: bool, second: bool) -> Checked {
     of
 }
 
-pub fn plus(a: Checked, b: Checked) -> Checked {
+pub(crate) fn plus(a: Checked, b: Checked) -> Checked {
     made(sum_of(a.value, b.value), a.good, b.good)
 }
 
-pub fn minus(a: Checked, b: Checked) -> Checked {
+pub(crate) fn minus(a: Checked, b: Checked) -> Checked {
     made(difference_of(a.value, b.value), a.good, b.good)
 }
 
-pub fn times(a: Checked, b: Checked) -> Checked {
+pub(crate) fn times(a: Checked, b: Checked) -> Checked {
     made(product_of(a.value, b.value), a.good, b.good)
 }
 
-pub fn same(a: Checked, b: Checked) -> bool {
+pub(crate) fn same(a: Checked, b: Checked) -> bool {
     if !a.good {
         return false;
     }

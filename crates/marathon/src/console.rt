@@ -1,11 +1,11 @@
 // What is printed on standard output: words, counts, signed numbers and exact values.
 use exact::Exact;
 
-pub fn say(word: &[u8]) {
+pub(crate) fn say(word: &[u8]) {
     io::write_all(libc::STDOUT_FILENO, word);
 }
 
-pub fn say_count(n: u64) {
+pub(crate) fn say_count(n: u64) {
     io::print_decimal(libc::STDOUT_FILENO, n);
 }
 
@@ -16,7 +16,7 @@ fn say_signed(z: i64) {
 }
 
 // The whole number of ticks and the part, each after a space.
-pub fn say_exact(e: Exact) {
+pub(crate) fn say_exact(e: Exact) {
     say(b" ");
     say_signed(e.whole);
     say(b" ");

@@ -14,20 +14,20 @@ use steps::Opening;
 use steps::ReportedPoint;
 
 // The session with what was answered so far, the number that the next draw begins with, and the axes.
-pub struct Course {
-    pub host: Host,
-    pub seed: u64,
-    pub x: Track,
-    pub y: Track,
-    pub z: Track,
+pub(crate) struct Course {
+    pub(crate) host: Host,
+    pub(crate) seed: u64,
+    pub(crate) x: Track,
+    pub(crate) y: Track,
+    pub(crate) z: Track,
 }
 
-pub struct Samples {
-    pub floats: [f64; 27],
-    pub seed: u64,
-    pub x: Track,
-    pub y: Track,
-    pub z: Track,
+pub(crate) struct Samples {
+    pub(crate) floats: [f64; 27],
+    pub(crate) seed: u64,
+    pub(crate) x: Track,
+    pub(crate) y: Track,
+    pub(crate) z: Track,
 }
 
 fn start() -> WholePoint {
@@ -79,7 +79,7 @@ fn opening_samples() -> Samples {
     }
 }
 
-pub fn begin() -> Course {
+pub(crate) fn begin() -> Course {
     let samples = opening_samples();
     let floats = samples.floats;
     let after = stepper::owned::open(session::closed(), 9, tolerances(), 2, start(), &floats);
@@ -178,7 +178,7 @@ fn step(c: Course, n: u64) -> Course {
     }
 }
 
-pub fn run(begun: Course) -> Course {
+pub(crate) fn run(begun: Course) -> Course {
     let mut c = begun;
     let mut n: u64 = 1;
     while n <= 1_000_000 {

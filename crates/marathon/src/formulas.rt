@@ -72,13 +72,18 @@ fn second_difference(now: Exact, last: Exact, before: Exact) -> Checked {
     )
 }
 
-pub fn position_holds(differences: [i64; 11], now: Exact, last: Exact, before: Exact) -> bool {
+pub(crate) fn position_holds(
+    differences: [i64; 11],
+    now: Exact,
+    last: Exact,
+    before: Exact,
+) -> bool {
     checked::same(
         second_difference(now, last, before),
         weighted(COWELL, differences),
     )
 }
 
-pub fn velocity_holds(differences: [i64; 11], now: Exact, last: Exact) -> bool {
+pub(crate) fn velocity_holds(differences: [i64; 11], now: Exact, last: Exact) -> bool {
     checked::same(difference(now, last), weighted(ADAMS, differences))
 }

@@ -12,7 +12,7 @@ fn moved(sample: i64, seed: u64) -> i64 {
 }
 
 // Samples near those of the first correction.
-pub fn drawn_near(d: Draw) -> Draw {
+pub(crate) fn drawn_near(d: Draw) -> Draw {
     let x = next(d.seed);
     let y = next(x);
     let z = next(y);

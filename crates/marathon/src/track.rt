@@ -6,25 +6,25 @@ use axis::Motion;
 use exact::Exact;
 use steps::ReportedMotion;
 
-pub struct Track {
-    pub differences: [i64; 11],
-    pub last: Motion,
-    pub before: Motion,
+pub(crate) struct Track {
+    pub(crate) differences: [i64; 11],
+    pub(crate) last: Motion,
+    pub(crate) before: Motion,
 }
 
-pub struct Differences {
-    pub values: [i64; 11],
-    pub good: bool,
+pub(crate) struct Differences {
+    pub(crate) values: [i64; 11],
+    pub(crate) good: bool,
 }
 
 // An axis after one point more, and whether the formulas held there.
-pub struct Followed {
-    pub track: Track,
-    pub good: bool,
+pub(crate) struct Followed {
+    pub(crate) track: Track,
+    pub(crate) good: bool,
 }
 
 // An axis at its opening point, before its samples.
-pub fn at_whole(position: i64, velocity: i64) -> Track {
+pub(crate) fn at_whole(position: i64, velocity: i64) -> Track {
     let start = Motion {
         position: Exact::of_whole(position),
         velocity: Exact::of_whole(velocity),
@@ -54,7 +54,7 @@ fn next_differences(old: [i64; 11], sample: i64) -> Differences {
 }
 
 // An axis with one opening sample more.
-pub fn with_sample(t: Track, sample: i64) -> Track {
+pub(crate) fn with_sample(t: Track, sample: i64) -> Track {
     let old = t.differences;
     let next = next_differences(old, sample);
     let differences = next.values;
@@ -89,7 +89,7 @@ fn holds(d: Differences, n: u64, now: Motion, last: Motion, before: Motion) -> b
 }
 
 // An axis with one accepted point more.
-pub fn follow(t: Track, n: u64, sample: i64, q: ReportedMotion) -> Followed {
+pub(crate) fn follow(t: Track, n: u64, sample: i64, q: ReportedMotion) -> Followed {
     let old = t.differences;
     let next = next_differences(old, sample);
     let now = exactly(q);

@@ -2,7 +2,7 @@
 use text::Unsigned;
 
 // Argument i, if it is a number and nothing else; a number past all bounds if not.
-pub fn number(i: usize) -> u64 {
+pub(crate) fn number(i: usize) -> u64 {
     let mut buf = [0u8; 16];
     let n = os::arg(i, &mut buf);
     let found = text::read_decimal(&buf[..n], 0);

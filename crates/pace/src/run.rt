@@ -11,11 +11,11 @@ use ticks::Sample;
 ghost use Prim.Native.Nat.{_≤_};
 
 // The session, the number that the next draw begins with, the checksum, and whether an answer was refused.
-pub struct Run {
-    pub session: Session,
-    pub seed: u64,
-    pub sum: u64,
-    pub refused: bool,
+pub(crate) struct Run {
+    pub(crate) session: Session,
+    pub(crate) seed: u64,
+    pub(crate) sum: u64,
+    pub(crate) refused: bool,
 }
 
 fn at_rest() -> WholePoint {
@@ -124,7 +124,7 @@ fn step(r: Run) -> Run {
     corrected(awaiting, drawing::sample_of(d), d.seed)
 }
 
-pub fn paced(points: usize, steps: u64) -> Run
+pub(crate) fn paced(points: usize, steps: u64) -> Run
     requires { ⌜ points ≤ 9 ⌝ }
 {
     let mut r = opened(points);

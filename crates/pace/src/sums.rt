@@ -14,6 +14,6 @@ fn with_motion(sum: u64, m: ReportedMotion) -> u64 {
     sum ^ bits_of(m.position.report) ^ bits_of(m.velocity.report)
 }
 
-pub fn with_point(sum: u64, q: ReportedPoint) -> u64 {
+pub(crate) fn with_point(sum: u64, q: ReportedPoint) -> u64 {
     with_motion(with_motion(with_motion(sum, q.x), q.y), q.z)
 }

@@ -8,14 +8,14 @@ ghost use Prim.Native.Nat.{_+_, _≤_};
 ghost use lib.ListN.{length};
 
 // The record after a line, and the place past its answer; a line that is no call has none.
-pub struct Answered {
-    pub session: Session,
-    pub end: usize,
-    pub call: bool,
+pub(crate) struct Answered {
+    pub(crate) session: Session,
+    pub(crate) end: usize,
+    pub(crate) call: bool,
 }
 
 fn no_call(s: Session, at: usize) -> Answered
-    ensures { λ r. ⌜ r .end ≤ at + 3355 ⌝ }
+    ensures { λ r. ⌜ r .end ≤ at + 3411 ⌝ }
 {
     Answered {
         session: s,
@@ -27,8 +27,8 @@ fn no_call(s: Session, at: usize) -> Answered
 // An answer, beside the record after it.
 fn put_answer(out: &mut [u8], at: usize, name: &[u8], answer: Answer, session: Session) -> Answered
     requires { ⌜ length (now name) ≤ 8 ⌝ }
-    requires { ⌜ at + 3355 ≤ length (now out) ⌝ }
-    ensures { λ r. ⌜ r .end ≤ at + 3355 ⌝ }
+    requires { ⌜ at + 3411 ≤ length (now out) ⌝ }
+    ensures { λ r. ⌜ r .end ≤ at + 3411 ⌝ }
 {
     let end = script::put_answer(out, at, name, answer);
     Answered {
@@ -41,8 +41,8 @@ fn put_answer(out: &mut [u8], at: usize, name: &[u8], answer: Answer, session: S
 // The answer of a round, beside the record after it.
 fn put_round(out: &mut [u8], at: usize, name: &[u8], after: AfterRound) -> Answered
     requires { ⌜ length (now name) ≤ 8 ⌝ }
-    requires { ⌜ at + 3355 ≤ length (now out) ⌝ }
-    ensures { λ r. ⌜ r .end ≤ at + 3355 ⌝ }
+    requires { ⌜ at + 3411 ≤ length (now out) ⌝ }
+    ensures { λ r. ⌜ r .end ≤ at + 3411 ⌝ }
 {
     let answer = answers::round_answer(after.answer);
     let session = after.session;
@@ -55,8 +55,8 @@ fn put_round(out: &mut [u8], at: usize, name: &[u8], after: AfterRound) -> Answe
 }
 
 fn answer_open(out: &mut [u8], at: usize, s: Session, line: &[u8]) -> Answered
-    requires { ⌜ at + 3355 ≤ length (now out) ⌝ }
-    ensures { λ r. ⌜ r .end ≤ at + 3355 ⌝ }
+    requires { ⌜ at + 3411 ≤ length (now out) ⌝ }
+    ensures { λ r. ⌜ r .end ≤ at + 3411 ⌝ }
 {
     let read = script::read_open(line, 4);
     if read.floats.end != line.len() {
@@ -74,8 +74,8 @@ fn answer_open(out: &mut [u8], at: usize, s: Session, line: &[u8]) -> Answered
 }
 
 fn answer_start(out: &mut [u8], at: usize, s: Session, line: &[u8]) -> Answered
-    requires { ⌜ at + 3355 ≤ length (now out) ⌝ }
-    ensures { λ r. ⌜ r .end ≤ at + 3355 ⌝ }
+    requires { ⌜ at + 3411 ≤ length (now out) ⌝ }
+    ensures { λ r. ⌜ r .end ≤ at + 3411 ⌝ }
 {
     let read = script::read_open(line, 5);
     if read.floats.end != line.len() {
@@ -85,8 +85,8 @@ fn answer_start(out: &mut [u8], at: usize, s: Session, line: &[u8]) -> Answered
 }
 
 fn answer_refine(out: &mut [u8], at: usize, s: Session, line: &[u8]) -> Answered
-    requires { ⌜ at + 3355 ≤ length (now out) ⌝ }
-    ensures { λ r. ⌜ r .end ≤ at + 3355 ⌝ }
+    requires { ⌜ at + 3411 ≤ length (now out) ⌝ }
+    ensures { λ r. ⌜ r .end ≤ at + 3411 ⌝ }
 {
     let read = script::read_floats(line, 6);
     if read.end != line.len() {
@@ -96,8 +96,8 @@ fn answer_refine(out: &mut [u8], at: usize, s: Session, line: &[u8]) -> Answered
 }
 
 fn answer_predict(out: &mut [u8], at: usize, s: Session) -> Answered
-    requires { ⌜ at + 3355 ≤ length (now out) ⌝ }
-    ensures { λ r. ⌜ r .end ≤ at + 3355 ⌝ }
+    requires { ⌜ at + 3411 ≤ length (now out) ⌝ }
+    ensures { λ r. ⌜ r .end ≤ at + 3411 ⌝ }
 {
     let after = stepper::owned::predict(s);
     let prediction = after.answer;
@@ -111,8 +111,8 @@ fn answer_predict(out: &mut [u8], at: usize, s: Session) -> Answered
 }
 
 fn answer_correct(out: &mut [u8], at: usize, s: Session, line: &[u8]) -> Answered
-    requires { ⌜ at + 3355 ≤ length (now out) ⌝ }
-    ensures { λ r. ⌜ r .end ≤ at + 3355 ⌝ }
+    requires { ⌜ at + 3411 ≤ length (now out) ⌝ }
+    ensures { λ r. ⌜ r .end ≤ at + 3411 ⌝ }
 {
     let read = script::read_sample(line);
     if read.end != line.len() {
@@ -130,8 +130,8 @@ fn answer_correct(out: &mut [u8], at: usize, s: Session, line: &[u8]) -> Answere
 }
 
 fn answer_withdraw(out: &mut [u8], at: usize, s: Session) -> Answered
-    requires { ⌜ at + 3355 ≤ length (now out) ⌝ }
-    ensures { λ r. ⌜ r .end ≤ at + 3355 ⌝ }
+    requires { ⌜ at + 3411 ≤ length (now out) ⌝ }
+    ensures { λ r. ⌜ r .end ≤ at + 3411 ⌝ }
 {
     let after = stepper::owned::withdraw(s);
     let withdrawal = after.answer;
@@ -146,7 +146,7 @@ fn answer_withdraw(out: &mut [u8], at: usize, s: Session) -> Answered
 
 // A record that is filled in is not answered.
 fn filled(at: usize, line: &[u8]) -> Answered
-    ensures { λ r. ⌜ r .end ≤ at + 3355 ⌝ }
+    ensures { λ r. ⌜ r .end ≤ at + 3411 ⌝ }
 {
     let read = script::read_session(line, 4);
     let session = read.session;
@@ -157,9 +157,9 @@ fn filled(at: usize, line: &[u8]) -> Answered
     }
 }
 
-pub fn answer_line(out: &mut [u8], at: usize, s: Session, line: &[u8]) -> Answered
-    requires { ⌜ at + 3355 ≤ length (now out) ⌝ }
-    ensures { λ r. ⌜ r .end ≤ at + 3355 ⌝ }
+pub(crate) fn answer_line(out: &mut [u8], at: usize, s: Session, line: &[u8]) -> Answered
+    requires { ⌜ at + 3411 ≤ length (now out) ⌝ }
+    ensures { λ r. ⌜ r .end ≤ at + 3411 ⌝ }
 {
     let name = script::name_of(line);
     match name {

@@ -8,7 +8,7 @@ ghost use mathlib.Core.Path.{_≡_};
 ghost use Prim.Native.Nat.{_≤_};
 ghost use Rattle.replay.specs.Calls.{openedBy, startedBy, refinedBy};
 
-pub fn open(s: Session, call: OpenCall) -> AfterOpen
+pub(crate) fn open(s: Session, call: OpenCall) -> AfterOpen
     requires { ⌜ call .floats .count ≤ 64 ⌝ }
     ensures { λ r. ⌜ r ≡ openedBy call ⌝ }
 {
@@ -28,7 +28,7 @@ pub fn open(s: Session, call: OpenCall) -> AfterOpen
     )
 }
 
-pub fn start(s: Session, call: OpenCall) -> AfterRound
+pub(crate) fn start(s: Session, call: OpenCall) -> AfterRound
     requires { ⌜ call .floats .count ≤ 64 ⌝ }
     ensures { λ r. ⌜ r ≡ startedBy call ⌝ }
 {
@@ -48,7 +48,7 @@ pub fn start(s: Session, call: OpenCall) -> AfterRound
     )
 }
 
-pub fn refine(s: Session, floats: Floats) -> AfterRound
+pub(crate) fn refine(s: Session, floats: Floats) -> AfterRound
     requires { ⌜ floats .count ≤ 64 ⌝ }
     ensures { λ r. ⌜ r ≡ refinedBy s floats ⌝ }
 {

@@ -6,12 +6,12 @@ ghost use Prim.Native.Nat.{_+_, _≤_};
 ghost use lib.ListN.{length};
 
 // How far a script is: the record, the lines so far, the bytes of input used, the bytes of output to be written, and whether the script is over.
-pub struct Progress {
-    pub session: Session,
-    pub count: u64,
-    pub used: usize,
-    pub written: usize,
-    pub over: bool,
+pub(crate) struct Progress {
+    pub(crate) session: Session,
+    pub(crate) count: u64,
+    pub(crate) used: usize,
+    pub(crate) written: usize,
+    pub(crate) over: bool,
 }
 
 // The place of the first newline from `from` on, and `end` where there is none before it.
@@ -32,7 +32,7 @@ fn newline(input: &[u8], from: usize, end: usize) -> usize
 }
 
 // Writes the first bytes of the output: whether they were taken.
-pub fn write_out(out: &[u8], written: usize) -> bool
+pub(crate) fn write_out(out: &[u8], written: usize) -> bool
     requires { ⌜ written ≤ length (now out) ⌝ }
 {
     io::write_all(libc::STDOUT_FILENO, &out[..written])
@@ -189,7 +189,7 @@ fn no_line(out: &mut [u8], p: Progress) -> Progress
 }
 
 // The answers to a piece of input: `got` new bytes, `end` with those that were held.
-pub fn answer_piece(
+pub(crate) fn answer_piece(
     input: &[u8],
     got: usize,
     end: usize,

@@ -7,7 +7,8 @@ use crate::words::natural_word;
 use axis::Tolerances;
 use session::WholePoint;
 use ticks::Sample;
-ghost use Prim.Native.Nat.{_≤_};
+ghost use mathlib.Core.Path.{_≡_};
+ghost use Rattle.script.specs.Calls.{beginsWith, isWord, nameOf, settingsAt, floatsAt, openAt, sampleAt};
 
 pub enum Name {
     Open,
@@ -45,7 +46,9 @@ pub struct ReadSample {
     pub end: usize,
 }
 
-fn begins(line: &[u8], word: &[u8]) -> bool {
+fn begins(line: &[u8], word: &[u8]) -> bool
+    ensures { λ r. ⌜ r ≡ beginsWith (now (line .entry)) (now (word .entry)) ⌝ }
+{
     if line.len() < word.len() {
         return false;
     }
@@ -59,8 +62,19 @@ fn begins(line: &[u8], word: &[u8]) -> bool {
     true
 }
 
+fn is_word(line: &[u8], word: &[u8]) -> bool
+    ensures { λ r. ⌜ r ≡ isWord (now (line .entry)) (now (word .entry)) ⌝ }
+{
+    if line.len() != word.len() {
+        return false;
+    }
+    begins(line, word)
+}
+
 // Which call a line begins with, in at most 4,096 bytes; a call that carries nothing is the whole line.
-pub fn name_of(line: &[u8]) -> Name {
+pub fn name_of(line: &[u8]) -> Name
+    ensures { λ r. ⌜ r ≡ nameOf (now (line .entry)) ⌝ }
+{
     if 4096 < line.len() {
         return Name::Nothing;
     }
@@ -79,21 +93,18 @@ pub fn name_of(line: &[u8]) -> Name {
     if begins(line, b"refine") {
         return Name::Refine;
     }
-    if begins(line, b"predict") {
-        if line.len() == 7 {
-            return Name::Predict;
-        }
-        return Name::Nothing;
+    if is_word(line, b"predict") {
+        return Name::Predict;
     }
-    if begins(line, b"withdraw") {
-        if line.len() == 8 {
-            return Name::Withdraw;
-        }
+    if is_word(line, b"withdraw") {
+        return Name::Withdraw;
     }
     Name::Nothing
 }
 
-fn read_settings(line: &[u8], at: usize) -> Settings {
+fn read_settings(line: &[u8], at: usize) -> Settings
+    ensures { λ r. ⌜ r ≡ settingsAt (now (line .entry)) at ⌝ }
+{
     let points = natural_word(line, at);
     let read = read_tolerances(line, points.end);
     let limit = natural_word(line, read.end);
@@ -118,7 +129,7 @@ fn read_settings(line: &[u8], at: usize) -> Settings {
 
 // Floats up to the end of the line, 64 at most.
 pub fn read_floats(line: &[u8], at: usize) -> Floats
-    ensures { λ r. ⌜ r .count ≤ 64 ⌝ }
+    ensures { λ r. ⌜ r ≡ floatsAt (now (line .entry)) at ⌝ }
 {
     let mut values = [0.0f64; 64];
     let mut count: usize = 0;
@@ -137,14 +148,16 @@ pub fn read_floats(line: &[u8], at: usize) -> Floats
 
 // What follows the name of an opening or of a first round, which ends at a place.
 pub fn read_open(line: &[u8], at: usize) -> OpenCall
-    ensures { λ r. ⌜ r .floats .count ≤ 64 ⌝ }
+    ensures { λ r. ⌜ r ≡ openAt (now (line .entry)) at ⌝ }
 {
     let settings = read_settings(line, at);
     let floats = read_floats(line, settings.end);
     OpenCall { settings, floats }
 }
 
-pub fn read_sample(line: &[u8]) -> ReadSample {
+pub fn read_sample(line: &[u8]) -> ReadSample
+    ensures { λ r. ⌜ r ≡ sampleAt (now (line .entry)) 7 ⌝ }
+{
     let x = bits_word(line, 7);
     let y = bits_word(line, x.end);
     let z = bits_word(line, y.end);

@@ -15,31 +15,33 @@ use text::put_hex;
 use text::put_numbers;
 use text::put_signed;
 use text::put_word;
-ghost use Prim.Native.Nat.{_+_, _≤_};
-ghost use lib.ListN.{length};
-ghost use Rattle.script.specs.Rooms.{Within};
+ghost use mathlib.Core.Path.{_≡_};
+ghost use mathlib.Core.List.{flatten};
+ghost use Rattle.text.specs.Places.{Wrote, Room};
+ghost use Rattle.script.specs.Lines.{natural, two, exactly, value, motionValues, pointValues, answerValues, answerLine};
+ghost use Rattle.script.specs.Lines.{motionWords, axisWords, numberOf, settingsWords, axesWords, recordLine, noCallLine};
 
 // ---- words
 
-pub fn put_natural(out: &mut [u8], at: usize, n: u64) -> usize
-    requires { ⌜ at + 21 ≤ length (now out) ⌝ }
-    ensures { λ r. ⌜ Within (now (out .entry)) at 21 (now (out .exit)) r ⌝ }
+pub(crate) fn put_natural(out: &mut [u8], at: usize, n: u64) -> usize
+    requires { ⌜ Room (now out) at (natural n) ⌝ }
+    ensures { λ r. ⌜ Wrote (now (out .entry)) at (flatten (natural n)) (now (out .exit)) r ⌝ }
 {
     let next = put(out, at, b' ');
     put_decimal(out, next, n)
 }
 
 fn put_two(out: &mut [u8], at: usize, m: u64, n: u64) -> usize
-    requires { ⌜ at + 42 ≤ length (now out) ⌝ }
-    ensures { λ r. ⌜ Within (now (out .entry)) at 42 (now (out .exit)) r ⌝ }
+    requires { ⌜ Room (now out) at (two m n) ⌝ }
+    ensures { λ r. ⌜ Wrote (now (out .entry)) at (flatten (two m n)) (now (out .exit)) r ⌝ }
 {
     let next = put_natural(out, at, m);
     put_natural(out, next, n)
 }
 
 fn put_exact(out: &mut [u8], at: usize, e: Exact) -> usize
-    requires { ⌜ at + 42 ≤ length (now out) ⌝ }
-    ensures { λ r. ⌜ Within (now (out .entry)) at 42 (now (out .exit)) r ⌝ }
+    requires { ⌜ Room (now out) at (exactly e) ⌝ }
+    ensures { λ r. ⌜ Wrote (now (out .entry)) at (flatten (exactly e)) (now (out .exit)) r ⌝ }
 {
     let a = put(out, at, b' ');
     let b = put_signed(out, a, e.whole);
@@ -47,8 +49,8 @@ fn put_exact(out: &mut [u8], at: usize, e: Exact) -> usize
 }
 
 fn put_reported(out: &mut [u8], at: usize, r: Reported) -> usize
-    requires { ⌜ at + 59 ≤ length (now out) ⌝ }
-    ensures { λ end. ⌜ Within (now (out .entry)) at 59 (now (out .exit)) end ⌝ }
+    requires { ⌜ Room (now out) at (value r) ⌝ }
+    ensures { λ end. ⌜ Wrote (now (out .entry)) at (flatten (value r)) (now (out .exit)) end ⌝ }
 {
     let a = put_exact(out, at, r.exact);
     let b = put(out, a, b' ');
@@ -57,17 +59,17 @@ fn put_reported(out: &mut [u8], at: usize, r: Reported) -> usize
 
 // ---- an answer
 
-pub fn put_motion_reported(out: &mut [u8], at: usize, m: ReportedMotion) -> usize
-    requires { ⌜ at + 118 ≤ length (now out) ⌝ }
-    ensures { λ r. ⌜ Within (now (out .entry)) at 118 (now (out .exit)) r ⌝ }
+pub(crate) fn put_motion_reported(out: &mut [u8], at: usize, m: ReportedMotion) -> usize
+    requires { ⌜ Room (now out) at (motionValues m) ⌝ }
+    ensures { λ r. ⌜ Wrote (now (out .entry)) at (flatten (motionValues m)) (now (out .exit)) r ⌝ }
 {
     let a = put_reported(out, at, m.position);
     put_reported(out, a, m.velocity)
 }
 
-pub fn put_point(out: &mut [u8], at: usize, q: ReportedPoint) -> usize
-    requires { ⌜ at + 354 ≤ length (now out) ⌝ }
-    ensures { λ r. ⌜ Within (now (out .entry)) at 354 (now (out .exit)) r ⌝ }
+pub(crate) fn put_point(out: &mut [u8], at: usize, q: ReportedPoint) -> usize
+    requires { ⌜ Room (now out) at (pointValues q) ⌝ }
+    ensures { λ r. ⌜ Wrote (now (out .entry)) at (flatten (pointValues q)) (now (out .exit)) r ⌝ }
 {
     let a = put_motion_reported(out, at, q.x);
     let b = put_motion_reported(out, a, q.y);
@@ -75,8 +77,8 @@ pub fn put_point(out: &mut [u8], at: usize, q: ReportedPoint) -> usize
 }
 
 fn put_values(out: &mut [u8], at: usize, answer: Answer) -> usize
-    requires { ⌜ at + 514 ≤ length (now out) ⌝ }
-    ensures { λ r. ⌜ Within (now (out .entry)) at 514 (now (out .exit)) r ⌝ }
+    requires { ⌜ Room (now out) at (answerValues answer) ⌝ }
+    ensures { λ r. ⌜ Wrote (now (out .entry)) at (flatten (answerValues answer)) (now (out .exit)) r ⌝ }
 {
     let a = put_natural(out, at, answer.number as u64);
     let b = put_natural(out, a, answer.kind as u64);
@@ -86,9 +88,8 @@ fn put_values(out: &mut [u8], at: usize, answer: Answer) -> usize
 
 // The call's name, and what was answered.
 pub fn put_answer(out: &mut [u8], at: usize, call: &[u8], answer: Answer) -> usize
-    requires { ⌜ length (now call) ≤ 8 ⌝ }
-    requires { ⌜ at + 523 ≤ length (now out) ⌝ }
-    ensures { λ r. ⌜ Within (now (out .entry)) at 523 (now (out .exit)) r ⌝ }
+    requires { ⌜ Room (now out) at (answerLine (now call) answer) ⌝ }
+    ensures { λ r. ⌜ Wrote (now (out .entry)) at (flatten (answerLine (now (call .entry)) answer)) (now (out .exit)) r ⌝ }
 {
     let a = put_word(out, at, call);
     let b = put_values(out, a, answer);
@@ -98,32 +99,27 @@ pub fn put_answer(out: &mut [u8], at: usize, call: &[u8], answer: Answer) -> usi
 // ---- a record
 
 fn put_motion(out: &mut [u8], at: usize, m: Motion) -> usize
-    requires { ⌜ at + 84 ≤ length (now out) ⌝ }
-    ensures { λ r. ⌜ Within (now (out .entry)) at 84 (now (out .exit)) r ⌝ }
+    requires { ⌜ Room (now out) at (motionWords m) ⌝ }
+    ensures { λ r. ⌜ Wrote (now (out .entry)) at (flatten (motionWords m)) (now (out .exit)) r ⌝ }
 {
     let a = put_exact(out, at, m.position);
     put_exact(out, a, m.velocity)
 }
 
-fn put_samples(out: &mut [u8], at: usize, row: [i64; 9]) -> usize
-    requires { ⌜ at + 189 ≤ length (now out) ⌝ }
-    ensures { λ r. ⌜ Within (now (out .entry)) at 189 (now (out .exit)) r ⌝ }
-{
-    put_numbers(out, at, row, 9)
-}
-
 fn put_axis(out: &mut [u8], at: usize, a: Axis) -> usize
-    requires { ⌜ at + 357 ≤ length (now out) ⌝ }
-    ensures { λ r. ⌜ Within (now (out .entry)) at 357 (now (out .exit)) r ⌝ }
+    requires { ⌜ Room (now out) at (axisWords a) ⌝ }
+    ensures { λ r. ⌜ Wrote (now (out .entry)) at (flatten (axisWords a)) (now (out .exit)) r ⌝ }
 {
     let samples = a.samples;
     let b = put_exact(out, at, a.first);
     let c = put_exact(out, b, a.second);
-    let d = put_samples(out, c, samples);
+    let d = put_numbers(out, c, samples, 9);
     put_motion(out, d, a.estimate)
 }
 
-fn number_of(s: State) -> u64 {
+fn number_of(s: State) -> u64
+    ensures { λ r. ⌜ r ≡ numberOf s ⌝ }
+{
     match s {
         State::Closed => 0,
         State::Settled => 1,
@@ -133,8 +129,8 @@ fn number_of(s: State) -> u64 {
 }
 
 fn put_settings(out: &mut [u8], at: usize, s: Session) -> usize
-    requires { ⌜ at + 105 ≤ length (now out) ⌝ }
-    ensures { λ r. ⌜ Within (now (out .entry)) at 105 (now (out .exit)) r ⌝ }
+    requires { ⌜ Room (now out) at (settingsWords s) ⌝ }
+    ensures { λ r. ⌜ Wrote (now (out .entry)) at (flatten (settingsWords s)) (now (out .exit)) r ⌝ }
 {
     let state = s.state;
     let tolerances = s.tolerances;
@@ -145,8 +141,8 @@ fn put_settings(out: &mut [u8], at: usize, s: Session) -> usize
 }
 
 fn put_axes(out: &mut [u8], at: usize, s: Session) -> usize
-    requires { ⌜ at + 1071 ≤ length (now out) ⌝ }
-    ensures { λ r. ⌜ Within (now (out .entry)) at 1071 (now (out .exit)) r ⌝ }
+    requires { ⌜ Room (now out) at (axesWords s) ⌝ }
+    ensures { λ r. ⌜ Wrote (now (out .entry)) at (flatten (axesWords s)) (now (out .exit)) r ⌝ }
 {
     let a = put_axis(out, at, s.x);
     let b = put_axis(out, a, s.y);
@@ -154,8 +150,8 @@ fn put_axes(out: &mut [u8], at: usize, s: Session) -> usize
 }
 
 pub fn put_record(out: &mut [u8], at: usize, s: Session) -> usize
-    requires { ⌜ at + 1225 ≤ length (now out) ⌝ }
-    ensures { λ r. ⌜ Within (now (out .entry)) at 1225 (now (out .exit)) r ⌝ }
+    requires { ⌜ Room (now out) at (recordLine s) ⌝ }
+    ensures { λ r. ⌜ Wrote (now (out .entry)) at (flatten (recordLine s)) (now (out .exit)) r ⌝ }
 {
     let a = put_word(out, at, b"record");
     let b = put_settings(out, a, s);
@@ -167,8 +163,8 @@ pub fn put_record(out: &mut [u8], at: usize, s: Session) -> usize
 // ---- a line that is no call
 
 pub fn put_no_call(out: &mut [u8], at: usize, number: u64) -> usize
-    requires { ⌜ at + 38 ≤ length (now out) ⌝ }
-    ensures { λ r. ⌜ Within (now (out .entry)) at 38 (now (out .exit)) r ⌝ }
+    requires { ⌜ Room (now out) at (noCallLine number) ⌝ }
+    ensures { λ r. ⌜ Wrote (now (out .entry)) at (flatten (noCallLine number)) (now (out .exit)) r ⌝ }
 {
     let a = put_word(out, at, b"line ");
     let b = put_decimal(out, a, number);

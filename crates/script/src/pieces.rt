@@ -8,6 +8,8 @@ use axis::Tolerances;
 use exact::Exact;
 use session::Session;
 use session::State;
+ghost use mathlib.Core.Path.{_≡_};
+ghost use Rattle.script.specs.Records.{threeAt, exactAt, motionAt, samplesAt, axisAt, stateOf, tolerancesAt, headAt, sessionAt};
 
 pub struct Three {
     pub a: i64,
@@ -57,7 +59,9 @@ pub struct ReadSession {
     pub end: usize,
 }
 
-pub fn read_three(line: &[u8], at: usize) -> Three {
+pub(crate) fn read_three(line: &[u8], at: usize) -> Three
+    ensures { λ r. ⌜ r ≡ threeAt (now (line .entry)) at ⌝ }
+{
     let a = integer_word(line, at);
     let b = integer_word(line, a.end);
     let c = integer_word(line, b.end);
@@ -69,7 +73,9 @@ pub fn read_three(line: &[u8], at: usize) -> Three {
     }
 }
 
-fn read_exact(line: &[u8], at: usize) -> ReadExact {
+fn read_exact(line: &[u8], at: usize) -> ReadExact
+    ensures { λ r. ⌜ r ≡ exactAt (now (line .entry)) at ⌝ }
+{
     let whole = integer_word(line, at);
     let part = small_word(line, whole.end, 4_294_967_296);
     ReadExact {
@@ -81,7 +87,9 @@ fn read_exact(line: &[u8], at: usize) -> ReadExact {
     }
 }
 
-fn read_motion(line: &[u8], at: usize) -> ReadMotion {
+fn read_motion(line: &[u8], at: usize) -> ReadMotion
+    ensures { λ r. ⌜ r ≡ motionAt (now (line .entry)) at ⌝ }
+{
     let position = read_exact(line, at);
     let velocity = read_exact(line, position.end);
     let p = position.value;
@@ -95,7 +103,9 @@ fn read_motion(line: &[u8], at: usize) -> ReadMotion {
     }
 }
 
-fn read_samples(line: &[u8], at: usize) -> ReadSamples {
+fn read_samples(line: &[u8], at: usize) -> ReadSamples
+    ensures { λ r. ⌜ r ≡ samplesAt (now (line .entry)) at ⌝ }
+{
     let p = read_three(line, at);
     let q = read_three(line, p.end);
     let r = read_three(line, q.end);
@@ -105,7 +115,9 @@ fn read_samples(line: &[u8], at: usize) -> ReadSamples {
     }
 }
 
-fn read_axis(line: &[u8], at: usize) -> ReadAxis {
+fn read_axis(line: &[u8], at: usize) -> ReadAxis
+    ensures { λ r. ⌜ r ≡ axisAt (now (line .entry)) at ⌝ }
+{
     let first = read_exact(line, at);
     let second = read_exact(line, first.end);
     let read = read_samples(line, second.end);
@@ -120,7 +132,9 @@ fn read_axis(line: &[u8], at: usize) -> ReadAxis {
     }
 }
 
-fn state_of(n: u64) -> State {
+fn state_of(n: u64) -> State
+    ensures { λ r. ⌜ r ≡ stateOf n ⌝ }
+{
     if n == 0 {
         return State::Closed;
     }
@@ -133,7 +147,9 @@ fn state_of(n: u64) -> State {
     State::Starting
 }
 
-pub fn read_tolerances(line: &[u8], at: usize) -> ReadTolerances {
+pub(crate) fn read_tolerances(line: &[u8], at: usize) -> ReadTolerances
+    ensures { λ r. ⌜ r ≡ tolerancesAt (now (line .entry)) at ⌝ }
+{
     let position = natural_word(line, at);
     let velocity = natural_word(line, position.end);
     ReadTolerances {
@@ -145,7 +161,9 @@ pub fn read_tolerances(line: &[u8], at: usize) -> ReadTolerances {
     }
 }
 
-fn read_head(line: &[u8], at: usize) -> Head {
+fn read_head(line: &[u8], at: usize) -> Head
+    ensures { λ r. ⌜ r ≡ headAt (now (line .entry)) at ⌝ }
+{
     let state = small_word(line, at, 4);
     let points = natural_word(line, state.end);
     let read = read_tolerances(line, points.end);
@@ -164,7 +182,9 @@ fn read_head(line: &[u8], at: usize) -> Head {
     }
 }
 
-pub fn read_session(line: &[u8], at: usize) -> ReadSession {
+pub fn read_session(line: &[u8], at: usize) -> ReadSession
+    ensures { λ r. ⌜ r ≡ sessionAt (now (line .entry)) at ⌝ }
+{
     let head = read_head(line, at);
     let x = read_axis(line, head.end);
     let y = read_axis(line, x.end);

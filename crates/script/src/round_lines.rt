@@ -7,14 +7,14 @@ use steps::ReportedMotion;
 use steps::ReportedPoint;
 use text::put;
 use text::put_word;
-ghost use Prim.Native.Nat.{_+_, _≤_};
-ghost use lib.ListN.{length};
-ghost use Rattle.script.specs.Rooms.{Within};
+ghost use mathlib.Core.List.{flatten};
+ghost use Rattle.text.specs.Places.{Wrote, Room};
+ghost use Rattle.script.specs.Lines.{roundValues, ninePoints, roundLine};
 
 // The number, the kind and the change of an answer.
 fn put_summary(out: &mut [u8], at: usize, number: u8, kind: u8, change: ReportedMotion) -> usize
-    requires { ⌜ at + 160 ≤ length (now out) ⌝ }
-    ensures { λ r. ⌜ Within (now (out .entry)) at 160 (now (out .exit)) r ⌝ }
+    requires { ⌜ Room (now out) at (roundValues number kind change) ⌝ }
+    ensures { λ r. ⌜ Wrote (now (out .entry)) at (flatten (roundValues number kind change)) (now (out .exit)) r ⌝ }
 {
     let a = put_natural(out, at, number as u64);
     let b = put_natural(out, a, kind as u64);
@@ -22,8 +22,8 @@ fn put_summary(out: &mut [u8], at: usize, number: u8, kind: u8, change: Reported
 }
 
 fn put_nine(out: &mut [u8], at: usize, points: [ReportedPoint; 9]) -> usize
-    requires { ⌜ at + 3186 ≤ length (now out) ⌝ }
-    ensures { λ r. ⌜ Within (now (out .entry)) at 3186 (now (out .exit)) r ⌝ }
+    requires { ⌜ Room (now out) at (ninePoints points) ⌝ }
+    ensures { λ r. ⌜ Wrote (now (out .entry)) at (flatten (ninePoints points)) (now (out .exit)) r ⌝ }
 {
     let mut end = at;
     let mut i: usize = 0;
@@ -36,9 +36,8 @@ fn put_nine(out: &mut [u8], at: usize, points: [ReportedPoint; 9]) -> usize
 
 // The call's name, and what was answered.
 pub fn put_round(out: &mut [u8], at: usize, call: &[u8], answer: RoundValues) -> usize
-    requires { ⌜ length (now call) ≤ 8 ⌝ }
-    requires { ⌜ at + 3355 ≤ length (now out) ⌝ }
-    ensures { λ r. ⌜ Within (now (out .entry)) at 3355 (now (out .exit)) r ⌝ }
+    requires { ⌜ Room (now out) at (roundLine (now call) answer) ⌝ }
+    ensures { λ r. ⌜ Wrote (now (out .entry)) at (flatten (roundLine (now (call .entry)) answer)) (now (out .exit)) r ⌝ }
 {
     let change = answer.change;
     let track = answer.track;

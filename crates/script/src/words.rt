@@ -1,5 +1,6 @@
 // The words of a line, each after one space. A word that is not there ends at place 0, and what is read from place 0 is not there.
-ghost use Prim.Native.Nat.{_<_};
+ghost use mathlib.Core.Path.{_≡_};
+ghost use Rattle.script.specs.Words.{naturalOf, integerOf, pastSpace, naturalWord, smallWord, integerWord, bitsWord};
 use text::Signed;
 use text::Unsigned;
 
@@ -13,14 +14,18 @@ pub struct Integer {
     pub end: usize,
 }
 
-fn natural_of(read: Unsigned) -> Natural {
+fn natural_of(read: Unsigned) -> Natural
+    ensures { λ r. ⌜ r ≡ naturalOf read ⌝ }
+{
     match read {
         Unsigned::Number(value, end) => Natural { value, end },
         Unsigned::Nothing => Natural { value: 0, end: 0 },
     }
 }
 
-fn integer_of(read: Signed) -> Integer {
+fn integer_of(read: Signed) -> Integer
+    ensures { λ r. ⌜ r ≡ integerOf read ⌝ }
+{
     match read {
         Signed::Number(value, end) => Integer { value, end },
         Signed::Nothing => Integer { value: 0, end: 0 },
@@ -28,7 +33,9 @@ fn integer_of(read: Signed) -> Integer {
 }
 
 // The place past the space at a place, and 0 where there is none.
-fn past_space(line: &[u8], at: usize) -> usize {
+fn past_space(line: &[u8], at: usize) -> usize
+    ensures { λ r. ⌜ r ≡ pastSpace (now (line .entry)) at ⌝ }
+{
     if at == 0 {
         return 0;
     }
@@ -41,7 +48,9 @@ fn past_space(line: &[u8], at: usize) -> usize {
     at + 1
 }
 
-pub fn natural_word(line: &[u8], at: usize) -> Natural {
+pub(crate) fn natural_word(line: &[u8], at: usize) -> Natural
+    ensures { λ r. ⌜ r ≡ naturalWord (now (line .entry)) at ⌝ }
+{
     let from = past_space(line, at);
     if from == 0 {
         return Natural { value: 0, end: 0 };
@@ -50,9 +59,8 @@ pub fn natural_word(line: &[u8], at: usize) -> Natural {
 }
 
 // A number below a limit.
-pub fn small_word(line: &[u8], at: usize, limit: u64) -> Natural
-    requires { ⌜ 0 < limit ⌝ }
-    ensures { λ r. ⌜ r .value < limit ⌝ }
+pub(crate) fn small_word(line: &[u8], at: usize, limit: u64) -> Natural
+    ensures { λ r. ⌜ r ≡ smallWord (now (line .entry)) at limit ⌝ }
 {
     let word = natural_word(line, at);
     if word.value < limit {
@@ -61,7 +69,9 @@ pub fn small_word(line: &[u8], at: usize, limit: u64) -> Natural
     Natural { value: 0, end: 0 }
 }
 
-pub fn integer_word(line: &[u8], at: usize) -> Integer {
+pub(crate) fn integer_word(line: &[u8], at: usize) -> Integer
+    ensures { λ r. ⌜ r ≡ integerWord (now (line .entry)) at ⌝ }
+{
     let from = past_space(line, at);
     if from == 0 {
         return Integer { value: 0, end: 0 };
@@ -70,7 +80,9 @@ pub fn integer_word(line: &[u8], at: usize) -> Integer {
 }
 
 // The bits of a float.
-pub fn bits_word(line: &[u8], at: usize) -> Natural {
+pub(crate) fn bits_word(line: &[u8], at: usize) -> Natural
+    ensures { λ r. ⌜ r ≡ bitsWord (now (line .entry)) at ⌝ }
+{
     let from = past_space(line, at);
     if from == 0 {
         return Natural { value: 0, end: 0 };

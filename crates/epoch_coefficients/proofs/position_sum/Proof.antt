@@ -16,7 +16,7 @@ combine-requires : tie.Need-combine-requires
 unfolding earlierPosition
 combine-requires c κs =
     let h = c .before .pre in
-    (rw (c .position .ensures) (bounded PositionCorrector position-light (h .0) (h .1 .0)), (omega (arith, at-most-9 (h .0)), h .1 .1))
+    (rw (c .position .ensures) (bounded PositionCorrector position-light (at-most-9 (h .0)) (h .1 .0)), (omega (arith, at-most-9 (h .0)), h .1 .1))
 
 returns : tie.Need-returns
 unfolding earlierPosition

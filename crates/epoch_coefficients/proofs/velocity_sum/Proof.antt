@@ -16,7 +16,7 @@ combine-requires : tie.Need-combine-requires
 unfolding earlierVelocity
 combine-requires c κs =
     let h = c .before .pre in
-    (rw (c .velocity .ensures) (bounded VelocityCorrector velocity-light (h .0) (h .1 .0)), (omega (arith, at-most-9 (h .0)), h .1 .1))
+    (rw (c .velocity .ensures) (bounded VelocityCorrector velocity-light (at-most-9 (h .0)) (h .1 .0)), (omega (arith, at-most-9 (h .0)), h .1 .1))
 
 returns : tie.Need-returns
 unfolding earlierVelocity

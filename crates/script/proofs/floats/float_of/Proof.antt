@@ -1,11 +1,16 @@
--- `script::floats::float_of` is safe: a pattern that is not above the infinity's is a number's.
-use borrow.Author.Needs.{needs}
-use Rattle.script.proofs.Patterns.{no-nan-pattern}
+-- `script::floats::float_of` meets its contract: a pattern above the infinity's is a NaN's, and every other is a number's.
+use mathlib.Core.Path.{refl}
+use lib.Ieee.{div, ofBits}
+use Rattle.script.proofs.Patterns.{no-nan-pattern, nan-pattern}
 use Rattle.script.proofs.floats.float_of.Statement.{statement}
 use Rattle.script.proofs.floats.float_of.Tie as tie
+
+returns : tie.Need-returns
+unfolding div ofBits
+returns c = nan-pattern (c .before .args .bits) (c .if1 .taken)
 
 float-from-bits-result : tie.Need-float-from-bits-result
 float-from-bits-result c = no-nan-pattern (c .before .args .bits) (c .if1 .left)
 
 pub float-of-spec : {M : Type 1} → statement M
-float-of-spec = tie.close (tie.spec (λ c. search needs) float-from-bits-result (λ c. search needs))
+float-of-spec = tie.close (tie.spec returns float-from-bits-result (λ c. refl))

@@ -1,0 +1,2 @@
+-- What the contracts of `drawing` cite.
+pub mod Draws

@@ -1,0 +1,4 @@
+-- The tables hold.
+pub mod Pieces
+pub mod Nine
+pub mod Table
