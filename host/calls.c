@@ -12,7 +12,7 @@
 
 #define WAIT_MOST 30 /* seconds */
 
-static FILE *to, *from;
+static FILE *to, *from, *kept;
 
 void fail(int status, const char *what, const char *more)
 {
@@ -56,7 +56,15 @@ void start_program(const char *path)
     from = fdopen(out[0], "r");
 }
 
-/* Sends a line; what is answered goes to the place given, and the record after it nowhere. */
+void keep_answers(const char *path)
+{
+    kept = fopen(path, "w");
+    if (kept == NULL)
+        fail(2, "cannot write ", path);
+}
+
+/* Sends a line; what is answered goes to the place given, and with the record after it to the file
+ * where answers are kept. */
 static void exchange(const char *line, char answer[LINE_MOST])
 {
     char record[LINE_MOST];
@@ -65,6 +73,8 @@ static void exchange(const char *line, char answer[LINE_MOST])
     fflush(to);
     if (fgets(answer, LINE_MOST, from) == NULL || fgets(record, sizeof record, from) == NULL)
         fail(1, "the program gives no answer", "");
+    if (kept != NULL && (fputs(answer, kept) < 0 || fputs(record, kept) < 0))
+        fail(1, "cannot keep an answer", "");
 }
 
 struct answer call(const char *line)

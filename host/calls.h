@@ -24,6 +24,9 @@ struct round {
 /* Starts the program at the path. */
 void start_program(const char *path);
 
+/* Keeps every answer, and the record after it, in the file at the path. */
+void keep_answers(const char *path);
+
 /* Makes the call that the line asks for. */
 struct answer call(const char *line);
 struct round call_round(const char *line);

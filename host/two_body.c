@@ -1,8 +1,8 @@
 /* A host: steps a body about the Earth in a session of another program, and prints how far it
  * ends up from the exact orbit. Arguments are pairs of a name below and its value; `program` is
  * the path of the program, `from` is `points` where the session is opened with known back points
- * or `epoch` where it is started from one point at their centre, and `rounding` says what the host
- * does about rounding to whole ticks:
+ * or `epoch` where it is started from one point at their centre, `answers` is a file that takes
+ * what the program writes, and `rounding` says what the host does about rounding to whole ticks:
  *   plain      nothing
  *   carried    what the samples lost goes into the next sample
  *   opening    as carried, and what the opening lost as well
@@ -99,6 +99,8 @@ static void read_arguments(int count, char **arguments)
             set_rounding(arguments[i + 1]);
         else if (strcmp(arguments[i], "from") == 0)
             set_from(arguments[i + 1]);
+        else if (strcmp(arguments[i], "answers") == 0)
+            keep_answers(arguments[i + 1]);
         else
             set_number(arguments[i], arguments[i + 1]);
     }

@@ -1,4 +1,4 @@
 -- Laws over the crate's definitions of what is read.
 mod Decimals
-mod Signs
+pub mod Signs
 mod Hexadecimals

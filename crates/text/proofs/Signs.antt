@@ -64,7 +64,7 @@ unfolding below
 below-too-far zero next h = absurd (omega arith)
 below-too-far (suc n) next h = rw (le-ltb n (2 ^ 63) (omega arith))
 
-minus-one-less : (n : ℕ) → negsuc 0 -ℤ pos n ≡ negsuc n
+pub minus-one-less : (n : ℕ) → negsuc 0 -ℤ pos n ≡ negsuc n
 minus-one-less n = parts-≡ (omega (integers, difference-parts (negsuc 0) (pos n)))
 
 pub below-fits : (n : ℕ) → (n ≡ 0 → ⊥) → n ≤ 2 ^ 63 → SFits w64 (negsuc 0 -ℤ pos (n - 1))

@@ -65,7 +65,7 @@ first-byte (b ∷ text) at n end e q = D.refuted (rw q at e)
 at-place : (s : List ℕ) (at : ℕ) → getD (drop at s) 0 0 ≡ getD s at 0
 at-place s at = getD-drop at s 0 0 ∙ ap (λ i. getD s i 0) (add-zero at)
 
-no-sign : (s : List ℕ) (at n end : ℕ) → decimalAt s at ≡ U.Number n end → eqb (getD s at 0) 45 ≡ false
+pub no-sign : (s : List ℕ) (at n end : ℕ) → decimalAt s at ≡ U.Number n end → eqb (getD s at 0) 45 ≡ false
 unfolding decimalAt
 no-sign s at n end e = ne-eqb (getD s at 0) 45 (λ q. first-byte (drop at s) at n end e (at-place s at ∙ q))
 
@@ -76,13 +76,13 @@ inside (b ∷ s) (suc at) e = omega (arith, inside s at e)
 
 -- a sign, and what follows it
 module _ {s : List ℕ} {at : ℕ} {word : List ℕ} {end : ℕ} where
-  sign : Stands s at (45 ∷ word) end → getD s at 0 ≡ 45
+  pub sign : Stands s at (45 ∷ word) end → getD s at 0 ≡ 45
   sign p = sym (at-place s at) ∙ ap (λ t. getD t 0 0) (p .holds)
 
-  after-sign : Stands s at (45 ∷ word) end → Stands s (at + 1) word end
+  pub after-sign : Stands s at (45 ∷ word) end → Stands s (at + 1) word end
   after-sign p = record { ends = omega (arith, p .ends); holds = sym (drop-drop 1 at s) ∙ ap (drop 1) (p .holds) }
 
-  with-sign : getD s at 0 ≡ 45 → Stands s (at + 1) word end → Stands s at (45 ∷ word) end
+  pub with-sign : getD s at 0 ≡ 45 → Stands s (at + 1) word end → Stands s at (45 ∷ word) end
   with-sign e p = record { ends = omega (arith, p .ends); holds = drop-cons s at 0 (inside s at e) ∙ rw (e, ← (add-one at)) (ap (λ t. 45 ∷ t) (p .holds)) }
 
 pub signed-back : (s : List ℕ) (at : ℕ) (z : ℤ) (end : ℕ) → SFits w64 z → Stands s at (signed z) end → NoDigit (drop end s) → signedAt s at ≡ S.Number z end
@@ -144,7 +144,7 @@ module _ {a : List ℕ} {at : ℕ} {word b : List ℕ} {end : ℕ} (w : Wrote a 
   past : drop end (take end b) ≡ []
   past = drop-of-length-le (take end b) {i = end} (omega (arith, length-take end b))
 
-  stands-there : Stands (take end b) at word end
+  pub stands-there : Stands (take end b) at word end
   stands-there =
       record {
         ends = w .ends;

@@ -6,6 +6,6 @@ pub mod Reading
 pub mod Pieces
 pub mod Digits
 pub mod Rows
-mod DecimalBack
+pub mod DecimalBack
 mod HexBack
 pub mod Back

@@ -26,6 +26,11 @@ digits (suc most) n = elim (ltb n 10) as (λ _. List ℕ) [ true ↦ [] | false 
 unfoldable pub decimal : ℕ → List ℕ
 decimal = digits 20
 
+-- the last so many digits, zeros in front included
+unfoldable pub lastDigits : ℕ → ℕ → List ℕ
+lastDigits zero n = []
+lastDigits (suc k) n = lastDigits k (n / 10) ++ (digit (n % 10) ∷ [])
+
 unfoldable pub signed : ℤ → List ℕ
 signed (pos n) = decimal n
 signed (negsuc n) = ascii "-" ++ decimal (suc n)

@@ -4,7 +4,7 @@ use Prim.Native.Nat.{ℕ, zero, suc, _+_, _≤_, _<_}
 use native.Mathlib.Nat.{add-zero, add-assoc}
 use native.Mathlib.Numerals.{add-one}
 use native.Mathlib.Omega.{arith}
-use mathlib.Core.Path.{_≡_, refl, sym, _∙_, ap, ap₂}
+use mathlib.Core.Path.{_≡_, refl, sym, _∙_, ap, ap₂, subst}
 use mathlib.Core.Bool.{Bool, true, false}
 use mathlib.Core.List.{List, [], _∷_, _++_, append-nil, append-assoc, flatten, map}
 use lib.Dec.{leb}
@@ -16,6 +16,10 @@ use Rattle.text.specs.Places.{written, Wrote, total, Room, inTurn}
 -- a write settles the buffer and the place past it
 pub settled : {a b c s : List ℕ} {i j k : ℕ} → Wrote a i s b j → Wrote a i s c k → (b ≡ c) × (j ≡ k)
 settled v w = (v .holds ∙ sym (w .holds), v .ends ∙ sym (w .ends))
+
+-- a text under another name of it
+pub retold : {a b s t : List ℕ} {i j : ℕ} → s ≡ t → Wrote a i s b j → Wrote a i t b j
+retold {a} {b} {i = i} {j = j} e w = subst (λ x. Wrote a i x b j) e w
 
 -- ---- one write after another
 

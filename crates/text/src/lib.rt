@@ -2,6 +2,8 @@
 mod reading;
 mod writing;
 
+pub use reading::negative;
+pub use reading::positive;
 pub use reading::read_decimal;
 pub use reading::read_hex;
 pub use reading::read_signed;
@@ -11,6 +13,7 @@ pub use writing::put_hex;
 pub use writing::put_numbers;
 pub use writing::put_signed;
 pub use writing::put_word;
+pub use writing::size;
 
 // What stands at a place: a number, and the place past it.
 pub enum Unsigned {

@@ -59,7 +59,7 @@ pub fn read_decimal(s: &[u8], at: usize) -> Unsigned
 }
 
 // A size as a number below 0, which ends at a place.
-fn negative(n: u64, next: usize) -> Signed
+pub fn negative(n: u64, next: usize) -> Signed
     ensures { λ r. ⌜ r ≡ below (Unsigned.Number n next) ⌝ }
 {
     if n == 0 {
@@ -72,7 +72,7 @@ fn negative(n: u64, next: usize) -> Signed
 }
 
 // A size as a number that is not below 0, which ends at a place.
-fn positive(n: u64, next: usize) -> Signed
+pub fn positive(n: u64, next: usize) -> Signed
     ensures { λ r. ⌜ r ≡ notBelow (Unsigned.Number n next) ⌝ }
 {
     if 9_223_372_036_854_775_807 < n {

@@ -1,0 +1,15 @@
+// Orbit ephemeris messages, written into a lent room.
+mod forms;
+mod lines;
+mod measures;
+mod points;
+mod refusals;
+mod writer;
+
+pub use writer::write_message;
+
+// The number that refuses, or 0, and how many bytes were written.
+pub struct Written {
+    pub number: u8,
+    pub length: usize,
+}

@@ -1,0 +1,205 @@
+"""The ephemeris message of a request, its refusals, and a strict reader of what is written."""
+import re
+from fractions import Fraction
+
+from dates import *
+
+PARTS = 159667200
+LENGTH = 12  # numbers of a point
+BOUNDS = 2 ** 52, 2 ** 40  # of a position and a velocity, in ticks and ticks per step
+PLACES = 6, 9  # decimals of kilometres and of kilometres per second
+DIGITS_MOST, LINE_MOST = 16, 254
+TICK_MOST, STEP_MOST = 16, 3600
+# The keywords whose values are names, each with the word of a request.
+NAMES = {'ORIGINATOR': 'originator', 'OBJECT_NAME': 'object', 'OBJECT_ID': 'id',
+         'CENTER_NAME': 'center', 'REF_FRAME': 'frame'}
+# The lines before the data: a keyword, and its value where that is fixed.
+HEAD = (('CCSDS_OEM_VERS', b'2.0'), ('CREATION_DATE', None), ('ORIGINATOR', None),
+        ('META_START', b''), ('OBJECT_NAME', None), ('OBJECT_ID', None), ('CENTER_NAME', None),
+        ('REF_FRAME', None), ('TIME_SYSTEM', b'TAI'), ('START_TIME', None), ('STOP_TIME', None),
+        ('META_STOP', b''))
+
+
+class Request:
+    """What a message is made of: bytes, but for tick, step, room (none if unlimited) and numbers."""
+
+    def __init__(self, created, names, start, tick, step, room, numbers):
+        self.created, self.names, self.start = created, names, start
+        self.tick, self.step, self.room, self.numbers = tick, step, room, numbers
+
+    def points(self):
+        """How many points there are; numbers that fill none do not count."""
+        return len(self.numbers) // LENGTH
+
+    def epoch(self, point):
+        """The seconds at a point, counted from 0; a series without points has that of its start."""
+        return seconds_of(self.start) + point * self.step
+
+    def last(self):
+        return self.epoch(max(self.points(), 1) - 1)
+
+
+# Names, times and settings
+
+def good_name(keyword, name):
+    """Whether a name can be a value of the keyword."""
+    if not name or not all(0x20 <= byte <= 0x7e for byte in name):
+        return False
+    if name.startswith(b' ') or name.endswith(b' '):
+        return False
+    if re.search(rb'[A-Z]', name) and re.search(rb'[a-z]', name):
+        return False
+    return len(value_line(keyword, name)) <= LINE_MOST
+
+
+def form_stands(request):
+    """Whether nothing asks for 11."""
+    return (all(good_name(keyword, request.names[keyword]) for keyword in NAMES)
+            and seconds_of(request.created) is not None and seconds_of(request.start) is not None
+            and request.tick <= TICK_MOST and 1 <= request.step <= STEP_MOST
+            and len(request.numbers) > 0 and time_text(request.last()) is not None)
+
+
+# Numbers
+
+def in_range(whole, part, bound):
+    return -bound <= whole < bound and 0 <= part < PARTS
+
+
+def nearest(value):
+    """The whole number nearest to a fraction, of two the even one."""
+    below = value.numerator // value.denominator
+    rest = value - below
+    if rest == Fraction(1, 2):
+        return below + below % 2
+    return below + (rest > Fraction(1, 2))
+
+
+def exact(whole, part, kind, tick, step):
+    """A position (kind 0) in kilometres or a velocity (kind 1) in kilometres per second."""
+    metres = (whole + Fraction(part, PARTS)) / 2 ** tick
+    return metres / 1000 / (1, step)[kind]
+
+
+def decimal(whole, part, kind, tick, step):
+    """The same as a whole number of its last decimal."""
+    return nearest(exact(whole, part, kind, tick, step) * 10 ** PLACES[kind])
+
+
+def decimal_text(count, places):
+    before, after = divmod(abs(count), 10 ** places)
+    return b'%s%d.%0*d' % (b'-' if count < 0 else b'', before, places, after)
+
+
+def over_digits(text):
+    return len(re.findall(rb'[0-9]', text)) > DIGITS_MOST
+
+
+def values(request, point):
+    """The six values of a point: whole, part, and the kind, 0 for a position."""
+    numbers = request.numbers[LENGTH * point:LENGTH * (point + 1)]
+    return [(numbers[2 * i], numbers[2 * i + 1], i // 3) for i in range(6)]
+
+
+def fields(request, point):
+    """The six decimals of a point as text; none where one of them asks for 6."""
+    texts = []
+    for whole, part, kind in values(request, point):
+        if not in_range(whole, part, BOUNDS[kind]):
+            return None
+        text = decimal_text(decimal(whole, part, kind, request.tick, request.step), PLACES[kind])
+        if over_digits(text):
+            return None
+        texts.append(text)
+    return texts
+
+
+# The message
+
+def value_line(keyword, value):
+    """A line before the data, without its newline."""
+    return keyword.encode() + b' = ' + value if value else keyword.encode()
+
+
+def message(request):
+    """The refusal and nothing, or 0 and the text."""
+    if not form_stands(request):
+        return 11, b''
+    points = [fields(request, point) for point in range(request.points())]
+    if len(request.numbers) % LENGTH != 0 or None in points:
+        return 6, b''
+    given = {**request.names, 'CREATION_DATE': request.created, 'START_TIME': request.start,
+             'STOP_TIME': time_text(request.last())}
+    lines = [value_line(keyword, given[keyword] if fixed is None else fixed)
+             for keyword, fixed in HEAD]
+    lines += [b' '.join([time_text(request.epoch(i)), *texts]) for i, texts in enumerate(points)]
+    text = b''.join(line + b'\n' for line in lines)
+    if request.room is not None and len(text) > request.room:
+        return 12, b''
+    return 0, text
+
+
+# The reader
+
+class NoMessage(Exception):
+    """The line at which a text is no message, counted from 1."""
+
+
+class Message:
+    """What a message says: values by keyword, and of each data line seconds and whole decimals."""
+
+    def __init__(self, given, epochs, decimals):
+        self.given, self.epochs, self.decimals = given, epochs, decimals
+
+
+def read_head(lines):
+    """The values by keyword."""
+    given = {}
+    for at, (keyword, fixed) in enumerate(HEAD):
+        line = lines[at] if at < len(lines) else b''
+        value = line[len(keyword) + 3:]
+        stands = line == value_line(keyword, value if fixed is None else fixed)
+        if fixed is None and keyword in NAMES:
+            stands = stands and good_name(keyword, value)
+        elif fixed is None:
+            stands = stands and seconds_of(value) is not None
+        if not stands:
+            raise NoMessage(at + 1)
+        given[keyword] = value
+    return given
+
+
+def read_decimal(text, places):
+    """A decimal as a whole number of its last place; none where it is not written so."""
+    if not re.fullmatch(rb'-?(0|[1-9][0-9]*)\.[0-9]{%d}' % places, text) or over_digits(text):
+        return None
+    count = int(text.replace(b'.', b''))
+    return None if text.startswith(b'-') and count == 0 else count
+
+
+def read_line(line):
+    """Seconds and decimals of a data line; none where it is no such line."""
+    epoch, *texts = line.split(b' ')
+    if seconds_of(epoch) is None or len(texts) != 6:
+        return None
+    decimals = [read_decimal(text, PLACES[i // 3]) for i, text in enumerate(texts)]
+    return None if None in decimals else (seconds_of(epoch), decimals)
+
+
+def read_message(text):
+    """What a message says; each line has to be as this file writes it."""
+    lines = text.split(b'\n')
+    if lines.pop() != b'':
+        raise NoMessage(len(lines) + 1)
+    given = read_head(lines)
+    read = [read_line(line) for line in lines[len(HEAD):]] or [None]
+    if None in read:
+        raise NoMessage(len(HEAD) + 1 + read.index(None))
+    epochs = [epoch for epoch, _ in read]
+    step = epochs[1] - epochs[0] if len(epochs) > 1 else 1
+    for at, epoch in enumerate(epochs):
+        if epoch != seconds_of(given['START_TIME']) + at * step or not 1 <= step <= STEP_MOST:
+            raise NoMessage(len(HEAD) + 1 + at)
+    if epochs[-1] != seconds_of(given['STOP_TIME']):
+        raise NoMessage([keyword for keyword, _ in HEAD].index('STOP_TIME') + 1)
+    return Message(given, epochs, [decimals for _, decimals in read])
