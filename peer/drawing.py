@@ -1,4 +1,5 @@
 """A script as it is drawn: the peer answers each call at once, so that the next can fit."""
+import collections
 import random
 import struct
 import subprocess
@@ -11,7 +12,8 @@ U64, I64, U32 = 2 ** 64 - 1, 2 ** 63 - 1, 2 ** 32 - 1
 CLOSED, SETTLED, AWAITING, STARTING = STATES = range(4)
 ACCEPTING, AGAIN, OPENING = 1, 2, 3  # kinds of answer
 PLACES = 9
-PART_PLACES = [what + 1 for what in (FIRST_SUM, SECOND_SUM, POSITION, VELOCITY)]
+PART_PLACES = [what + 1 for what in (FIRST_SUM, SECOND_SUM, HELD_POSITION, HELD_VELOCITY,
+                                     POSITION, VELOCITY)]
 UNSIGNED = [0, 1, 2, 8, 9, 10, TOLERANCE_MOST, TOLERANCE_MOST + 1, ACCEPTED_MOST, 2 ** 32,
             2 ** 63 - 1, 2 ** 63, U64 - 1, U64]
 SIGNED = [0, 1, -1, SAMPLE_MOST, SAMPLE_MOST + 1, -SAMPLE_MOST, -SAMPLE_MOST - 1, 2 ** 31, -2 ** 31,
@@ -31,6 +33,7 @@ class Script:
         self.rng = random.Random(seed)
         self.peer = subprocess.Popen([str(peer)], stdin=subprocess.PIPE, stdout=subprocess.PIPE)
         self.script, self.written = [], []
+        self.met = collections.Counter()  # what the script alone knows that it has met
         self.seen = []  # records that calls have left, each with its present point if known
         self.state, self.present, self.answer, self.record_line = CLOSED, None, None, b''
         self.scale, self.last_sample = 1, None
@@ -71,10 +74,10 @@ class Script:
                 self.seen[self.rng.randrange(20)] = entry
 
     def end(self, tail):
-        """Ends the script by bytes that may be no calls; its bytes, and those the peer wrote."""
+        """Ends the script by bytes that may be no calls; its bytes, those the peer wrote, what it met."""
         text = ''.join(line + '\n' for line in self.script).encode()
         rest, _ = self.peer.communicate(tail)
-        return text + tail, b''.join(self.written) + rest
+        return text + tail, b''.join(self.written) + rest, self.met
 
     def record(self):
         return record_fields(self.record_line)

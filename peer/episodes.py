@@ -11,7 +11,8 @@ EPISODES = [S.session, S.session, S.session, S.every_number_of_points, S.floats,
             S.at_last_point, S.random_fills, S.every_start, S.host, S.to_the_limit,
             S.while_starting, S.later_in_every_state, S.refused_starts, S.refused_rounds,
             S.starts_headed_out, S.epochs_at_bounds, S.points_at_bounds, S.rounds_at_tolerance,
-            S.nearly_starting, S.nearly_starting]
+            S.nearly_starting, S.nearly_starting, S.untrue_held, S.untrue_held,
+            S.held_while_starting, S.held_before_accepted]
 
 
 def session_script(script, index):
@@ -41,7 +42,7 @@ def spoilt_script(script, index):
 
 
 def draw(peer, seed, index):
-    """The script of that index, and what the peer writes for it."""
+    """The script of that index, what the peer writes for it, and what the script has met."""
     script = Starts(peer, f'{seed}/{index}')
     turn, kind = divmod(index, SESSION_EVERY)
     if kind == 0:

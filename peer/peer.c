@@ -7,8 +7,9 @@
  *   start POINTS TOLERANCES LIMIT X Y Z VX VY VZ F F ..   as open
  *   refine F F ..                                         0 to 64 floats
  *   fill STATE POINTS TOLERANCES LIMIT ACCEPTED CORRECTIONS, then for each axis
- *        S1 whole, S1 part, S2 whole, S2 part, nine samples newest first,
- *        estimate position whole, part, velocity whole, part
+ *        S1 whole, S1 part, S2 whole, S2 part,
+ *        held sum of positions whole, part, that of velocities whole, part,
+ *        nine samples newest first, estimate position whole, part, velocity whole, part
  * TOLERANCES are two words, for position and for velocity.
  * Words stand apart by exactly one space, none before the first or after the last. A line ends
  * with a newline and has at most 4,096 bytes before it; what follows the last newline is no call.
@@ -201,6 +202,8 @@ static void write_record(const struct record *r)
         const struct axis *a = &r->axes[i];
         write_exact(a->first_sum);
         write_exact(a->second_sum);
+        write_exact(a->held_position);
+        write_exact(a->held_velocity);
         for (int k = 0; k < PLACES; k++)
             printf(" %" PRId64, a->samples[k]);
         write_exact(a->position);
@@ -281,6 +284,8 @@ static bool do_fill(struct record *r, struct text *t)
         struct axis *a = &filled.axes[i];
         a->first_sum = exact_words(t);
         a->second_sum = exact_words(t);
+        a->held_position = exact_words(t);
+        a->held_velocity = exact_words(t);
         for (int k = 0; k < PLACES; k++)
             a->samples[k] = signed_word(t);
         a->position = exact_words(t);

@@ -17,10 +17,11 @@ AXES = range(3)
 (STATE, POINTS, POSITION_TOLERANCE, VELOCITY_TOLERANCE, LIMIT, ACCEPTED,
  CORRECTIONS) = range(7)
 TOLERANCES = slice(POSITION_TOLERANCE, VELOCITY_TOLERANCE + 1)
-# Where the 17 numbers of an axis begin, and what stands where among them.
-FIRST_AXIS, AXIS_LENGTH = 7, 17
+# Where the 21 numbers of an axis begin, and what stands where among them.
+FIRST_AXIS, AXIS_LENGTH = 7, 21
 RECORD_LENGTH = FIRST_AXIS + 3 * AXIS_LENGTH
-FIRST_SUM, SECOND_SUM, SAMPLES, POSITION, VELOCITY = 0, 2, 4, 13, 15
+FIRST_SUM, SECOND_SUM, HELD_POSITION, HELD_VELOCITY, SAMPLES, POSITION, VELOCITY = (
+    0, 2, 4, 6, 8, 17, 19)
 
 
 class Arguments(argparse.ArgumentParser):

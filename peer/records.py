@@ -1,4 +1,5 @@
 """Episodes of calls on records that a host has filled."""
+from held import held_words
 from sessions import *
 
 
@@ -26,8 +27,20 @@ class Records(Sessions):
             at = self.rng.choice((self.rng.randrange(FIRST_AXIS), self.rng.randrange(len(record)),
                                   axis_at(self.rng.choice(AXES), self.rng.choice(PART_PLACES))))
             record[at] = self.changed(record, at)
+            if self.rng.random() < 0.7:
+                self.hold(record)
             self.fill(record)
             self.fitting_call()
+
+    def hold(self, record):
+        """Makes the held sums those that the record's state, points and samples call for."""
+        for axis in AXES:
+            samples = record[axis_at(axis, SAMPLES):axis_at(axis, POSITION)]
+            words = held_words(record[POINTS], samples)
+            if record[STATE] not in (SETTLED, AWAITING):
+                words = [0] * 4
+            if max(map(abs, words)) <= I64:
+                record[axis_at(axis, HELD_POSITION):axis_at(axis, SAMPLES)] = words
 
     def changed(self, record, at):
         """Another value for the field."""
@@ -170,7 +183,8 @@ class Records(Sessions):
         for _ in AXES:
             record += [self.signed(VELOCITY_BOUND - 1), rng.randrange(PARTS),
                        self.signed(POSITION_BOUND - 1), rng.randrange(PARTS)]
-            record += self.random_samples(points, scale)
+            samples = self.random_samples(points, scale)
+            record += held_words(points, samples) + samples
             for bound in (POSITION_BOUND, VELOCITY_BOUND):
                 record += [self.signed(bound - 1), rng.randrange(PARTS)] if waits else [0, 0]
         return record
@@ -182,7 +196,7 @@ class Records(Sessions):
         record = [STARTING, points, *self.tolerances(), limit, 0, rng.randrange(limit)]
         scale = max(1, self.size(SAMPLE_MOST))
         for _ in AXES:
-            record += [0] * 4 + self.random_samples(points, scale)
+            record += [0] * SAMPLES + self.random_samples(points, scale)
             record += [self.signed(POSITION_BOUND - 1), 0, self.signed(VELOCITY_BOUND - 1), 0]
         return record
 
@@ -199,6 +213,8 @@ class Records(Sessions):
                 for _ in range(rng.randint(1, 4)):
                     at = rng.randrange(len(record))
                     record[at] = self.changed(record, at)
+                if rng.random() < 0.7:
+                    self.hold(record)
             elif kind == 1 and rng.random() < 0.5:
                 record = self.wild_record()
             self.fill(record)
@@ -212,7 +228,7 @@ class Records(Sessions):
             return rng.choice((rng.choice(edges), rng.randint(least, most)))
         record = [rng.choice(STATES)] + [number(UNSIGNED, U64) for _ in range(1, FIRST_AXIS)]
         for _ in AXES:
-            exact = [[number(SIGNED, I64, -I64 - 1), number(PART, U32)] for _ in range(4)]
+            exact = [[number(SIGNED, I64, -I64 - 1), number(PART, U32)] for _ in range(6)]
             samples = [number(SIGNED, I64, -I64 - 1) for _ in range(PLACES)]
-            record += exact[0] + exact[1] + samples + exact[2] + exact[3]
+            record += sum(exact[:4], []) + samples + sum(exact[4:], [])
         return record

@@ -135,9 +135,11 @@ def left(points, count, epoch, samples, found, is_open):
     record = [SETTLED if is_open else STARTING, points, *NEAR, 8, 0, 0 if is_open else count]
     for axis in AXES:
         sums = [divmod(in_parts(value), PARTS) for value in found[axis][1]]
-        held = [0, 0, 0, 0] if is_open else [epoch[0][axis], 0, epoch[1][axis], 0]
-        record += [*sums[0], *sums[1]] if is_open else [0] * 4
-        record += [*samples[axis], *[0] * (9 - points), *held]
+        older = [divmod(in_parts(applied(series(0, points), [0, *samples[axis][:-1]])), PARTS)
+                 for series in (position_series, velocity_series)]
+        estimate = [0] * 4 if is_open else [epoch[0][axis], 0, epoch[1][axis], 0]
+        record += [*sums[0], *sums[1], *older[0], *older[1]] if is_open else [0] * SAMPLES
+        record += [*samples[axis], *[0] * (9 - points), *estimate]
     return record
 
 

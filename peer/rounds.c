@@ -86,8 +86,9 @@ static bool zero(struct exact value)
 
 static bool axis_stands(const struct axis *a, uint64_t points)
 {
-    return zero(a->first_sum) && zero(a->second_sum) && samples_stand(a, points) &&
-           a->position.part == 0 && a->velocity.part == 0 && in_range(estimate(a));
+    return zero(a->first_sum) && zero(a->second_sum) && zero(a->held_position) &&
+           zero(a->held_velocity) && samples_stand(a, points) && a->position.part == 0 &&
+           a->velocity.part == 0 && in_range(estimate(a));
 }
 
 /* Whether the starting record does not count as closed; if so courses takes its last round. */
@@ -109,6 +110,7 @@ static void open_at(struct record *r, const struct course courses[AXES])
     for (int i = 0; i < AXES; i++) {
         r->axes[i].first_sum = split(courses[i].first_sum);
         r->axes[i].second_sum = split(courses[i].second_sum);
+        hold_older(&r->axes[i], r->points);
     }
     settle(r);
 }

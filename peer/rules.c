@@ -21,6 +21,8 @@ struct fraction {
 int64_t adams_corrector[PLACES + 1], cowell_corrector[PLACES + 2];
 /* g(i) and s(i) times D, at their index. */
 static int64_t adams_predictor[PLACES + 1], stormer_predictor[PLACES + 2];
+/* By points, the weights of the correctors' samples, newest first. */
+static int64_t position_weights[PLACES + 1][PLACES], velocity_weights[PLACES + 1][PLACES];
 
 static struct fraction reduced(wide top, wide bottom)
 {
@@ -52,6 +54,18 @@ static int64_t scaled(struct fraction f)
     return (int64_t)(top / f.bottom);
 }
 
+/* What a series of differences gives to each of its samples: (1 - x)^order has the binomials. */
+static void weigh(const int64_t *coefficients, uint64_t points, int64_t *weights)
+{
+    for (uint64_t back = 0; back < points; back++) {
+        int64_t binomial = back % 2 == 0 ? 1 : -1;
+        for (uint64_t order = back; order < points; order++) {
+            weights[back] += binomial * coefficients[order];
+            binomial = binomial * (int64_t)(order + 1) / (int64_t)(order + 1 - back);
+        }
+    }
+}
+
 void prepare(void)
 {
     const struct fraction zero = {0, 1};
@@ -74,6 +88,10 @@ void prepare(void)
         g = sum(g, c[i]);
         adams_corrector[i] = scaled(c[i]);
         adams_predictor[i] = scaled(g);
+    }
+    for (uint64_t points = 1; points <= PLACES; points++) {
+        weigh(cowell_corrector + 2, points, position_weights[points]);
+        weigh(adams_corrector + 1, points, velocity_weights[points]);
     }
 }
 
@@ -187,6 +205,17 @@ static struct motion present(const struct axis *a, uint64_t points)
     return corrected(parts(a->second_sum) - first, first, a->samples, points);
 }
 
+/* What the samples but the oldest give to the next corrected point, where each is one place older. */
+static struct motion older_part(const struct axis *a, uint64_t points)
+{
+    wide position = 0, velocity = 0;
+    for (uint64_t back = 1; back < points; back++) {
+        position += (wide)position_weights[points][back] * a->samples[back - 1];
+        velocity += (wide)velocity_weights[points][back] * a->samples[back - 1];
+    }
+    return (struct motion){position, velocity};
+}
+
 /* Moves the samples one place on and puts the newest first; the oldest is lost. */
 static void push(int64_t *samples, uint64_t points, int64_t newest)
 {
@@ -255,13 +284,33 @@ void set_estimate(struct axis *a, struct motion m)
     a->velocity = split(m.velocity);
 }
 
+void hold_older(struct axis *a, uint64_t points)
+{
+    struct motion older = older_part(a, points);
+    a->held_position = split(older.position);
+    a->held_velocity = split(older.velocity);
+}
+
+static bool same(struct exact a, struct exact b)
+{
+    return a.whole == b.whole && a.part == b.part;
+}
+
+/* Whether the held sums are those of the samples, in the one form of each. */
+static bool held_stands(const struct axis *a, uint64_t points)
+{
+    struct motion older = older_part(a, points);
+    return same(a->held_position, split(older.position)) &&
+           same(a->held_velocity, split(older.velocity));
+}
+
 static bool axis_stands(const struct record *r, const struct axis *a)
 {
     const struct exact values[] = {a->first_sum, a->second_sum, a->position, a->velocity};
     for (int i = 0; i < 4; i++)
         if (values[i].part >= PARTS)
             return false;
-    if (!samples_stand(a, r->points))
+    if (!samples_stand(a, r->points) || !held_stands(a, r->points))
         return false;
     struct motion held = estimate(a);
     if (!in_range(present(a, r->points)) || !in_range(held))
@@ -317,7 +366,7 @@ struct motion given_point(const struct opening *given, int axis)
                            (wide)given->velocity[axis] * PARTS};
 }
 
-/* The sums for which the corrected point is the given one. */
+/* The sums for which the corrected point is the given one, and those held of the samples. */
 static void open_axis(struct axis *a, uint64_t points, struct motion point)
 {
     struct motion from_zero = corrected(0, 0, a->samples, points);
@@ -325,6 +374,7 @@ static void open_axis(struct axis *a, uint64_t points, struct motion point)
     wide before = point.position - from_zero.position;
     a->first_sum = split(first);
     a->second_sum = split(before + first);
+    hold_older(a, points);
 }
 
 int refusal_of(const struct opening *given, int64_t *ticks)
@@ -382,6 +432,7 @@ static void accept(struct record *r, const int64_t ticks[AXES])
         a->first_sum = split(first);
         a->second_sum = split(parts(a->second_sum) + first);
         push(a->samples, r->points, ticks[i]);
+        hold_older(a, r->points);
     }
     r->accepted += 1;
     settle(r);

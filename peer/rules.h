@@ -24,6 +24,7 @@ struct exact {
 
 struct axis {
     struct exact first_sum, second_sum;
+    struct exact held_position, held_velocity; /* what the older samples give to the next correction */
     int64_t samples[PLACES]; /* newest first */
     struct exact position, velocity; /* the estimate; while starting the epoch */
 };

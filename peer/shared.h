@@ -36,6 +36,9 @@ bool samples_stand(const struct axis *a, uint64_t points);
 /* Puts rounded samples, oldest point first, in place of those of the record. */
 void hold_samples(struct record *r, const int64_t *ticks);
 
+/* Works out the held sums from the samples. */
+void hold_older(struct axis *a, uint64_t points);
+
 /* Takes the sizes of an axis's changes from one estimate to another into the largest so far. */
 void take_changes(struct motion *largest, struct motion before, struct motion after);
 

@@ -1,8 +1,8 @@
 """Episodes of first and later rounds, and of records that a host has filled between them."""
-from records import *
+from held_sums import *
 
 
-class Starts(Records):
+class Starts(HeldSums):
     """A script with sessions started from an epoch."""
 
     def rounds(self, most=LIMIT_MOST):
@@ -52,6 +52,9 @@ class Starts(Records):
     def while_starting(self):
         """Calls that do not fit a starting record; a round that agrees afterwards opens it."""
         self.start()
+        if self.rng.random() < 0.5:
+            # With samples of zero only its state tells a record between rounds from an awaiting one.
+            self.call(refine_line([bits(0.0) for _ in self.held()]))
         words = self.words(self.held())
         self.call(self.rng.choice(('predict', 'withdraw', correct_line(self.sample()))))
         for _ in range(self.rng.randint(0, 4)):

@@ -7,7 +7,7 @@ use lib.IntN.{natAbs, pos, _-ℤ_}
 use Rattle.integers.specs.Tests.{joined}
 use Rattle.integers.specs.Parts.{natAbs-parts, one-part, difference-parts}
 use Rattle.exact.specs.Numerator.{D, exactOf, numerator, Bounded}
-use Rattle.exact.specs.Laws.{part-below, same-true, larger-size}
+use Rattle.exact.specs.Laws.{part-below, same-true, same-refl, larger-size}
 use Rattle.exact.specs.Bounds.{numerator-within, widen}
 use Rattle.axis.specs.declared.Motion.{Motion}
 use Rattle.axis.specs.Formulas.{motionOf, still}
@@ -23,6 +23,10 @@ unfolding sameMotion
 motions-same m n t =
     let (p, v) = simp joined at t in
     λ i. record { position = same-true (m .position) (n .position) p i; velocity = same-true (m .velocity) (n .velocity) v i }
+
+pub motions-refl : (m : Motion) → sameMotion m m ≡ true
+unfolding sameMotion
+motions-refl m = simp joined (same-refl (m .position), same-refl (m .velocity))
 
 -- ---- changes
 

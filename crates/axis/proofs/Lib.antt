@@ -1,7 +1,8 @@
 -- Laws over the crate's definitions.
+pub mod Agreement
 pub mod Sums
 pub mod Places
+pub mod Held
 pub mod Sound
 pub mod Points
 pub mod Kept
-pub mod Agreement

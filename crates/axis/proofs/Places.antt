@@ -114,3 +114,6 @@ filled-holds (suc p) n (y ∷ ys) h = rw (le-leb (natAbs y) (2 ^ 28) (h 0)) (fil
 
 pub places-hold : (p : ℕ) (ys : List ℤ) → Small ys → placesHold p (places p ys) ≡ true
 places-hold p ys s = filled-holds p (9 - p) ys (s .small)
+
+pub places-small : (p : ℕ) {ys : List ℤ} → Small ys → Small (places p ys)
+places-small p {ys} s = small-samples p (places p ys) (places-hold p ys s)

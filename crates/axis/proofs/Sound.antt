@@ -19,9 +19,10 @@ use Rattle.axis.specs.declared.Axis.{Axis}
 use Rattle.axis.specs.declared.Motion.{Motion}
 use Rattle.axis.specs.Formulas.{motionOf, presentMotion, predictedMotion, correctedMotion}
 use Rattle.axis.specs.Estimates.{inRange}
-use Rattle.axis.specs.Holding.{remaindersHold, samplesSmall, emptyZero, placesHold, axisHolds, firstFits, secondFits}
-use Rattle.axis.specs.Ready.{Ready, Placed}
+use Rattle.axis.specs.Holding.{remaindersHold, samplesSmall, emptyZero, placesHold, olderHolds, axisHolds, firstFits, secondFits}
+use Rattle.axis.specs.Ready.{Ready, Held, Placed}
 use Rattle.axis.proofs.Places.{small-samples, places-by-rules}
+use Rattle.axis.proofs.Held.{held-true}
 
 -- ---- motions in range
 
@@ -108,16 +109,20 @@ pub record HoldingAxis (p : ℕ) (a : Axis) : Type 0 where
   pub small : Small (a .samples)
   pub present-range : inRange (presentMotion p a) ≡ true
   pub estimate-range : inRange (a .estimate) ≡ true
+  pub older : olderHolds p a ≡ true
 
 module _ (p : ℕ) (a : Axis) (t : axisHolds p a ≡ true) where
   pub holding-axis : HoldingAxis p a
   unfolding axisHolds
   holding-axis =
-      let (r, (x, (m, e))) = simp joined at t in
-      record { remainders = remainders a r; filled = x; small = small-samples p (a .samples) x; present-range = m; estimate-range = e }
+      let (r, (x, (m, (e, o)))) = simp joined at t in
+      record { remainders = remainders a r; filled = x; small = small-samples p (a .samples) x; present-range = m; estimate-range = e; older = o }
 
   pub axis-ready : (1 ≤ p) × (p ≤ 9) → Ready p a
   axis-ready some = let h = holding-axis in ready-by-range p a some (h .remainders .first) (h .remainders .second) (h .small) (h .present-range)
+
+  pub axis-held : Held p a
+  axis-held = held-true p a (holding-axis .older)
 
   pub estimate-placed : Placed (a .estimate)
   estimate-placed = let h = holding-axis in placed (a .estimate) (h .remainders .position) (h .remainders .velocity) (h .estimate-range)
@@ -130,13 +135,14 @@ pub record KeepsAxis (p : ℕ) (a : Axis) : Type 0 where
   pub empty-places : emptyZero p (a .samples) ≡ true
   pub present-point : inRange (presentMotion p a) ≡ true
   pub estimate : inRange (a .estimate) ≡ true
+  pub older : olderHolds p a ≡ true
 
 pub holds-by-rules : (p : ℕ) (a : Axis) → (axisHolds p a ≡ true) ↔ KeepsAxis p a
 unfolding axisHolds
 holds-by-rules p a = (
   (λ t.
-      let (r, (x, (m, e))) = simp joined at t in
+      let (r, (x, (m, (e, o)))) = simp joined at t in
       let (s, z) = simp joined at (sym (places-by-rules p (a .samples)) ∙ x) in
-      record { remainders = r; samples = s; empty-places = z; present-point = m; estimate = e }),
-  (λ k. simp joined (k .remainders, (places-by-rules p (a .samples) ∙ simp joined (k .samples, k .empty-places), (k .present-point, k .estimate)))),
+      record { remainders = r; samples = s; empty-places = z; present-point = m; estimate = e; older = o }),
+  (λ k. simp joined (k .remainders, (places-by-rules p (a .samples) ∙ simp joined (k .samples, k .empty-places), (k .present-point, (k .estimate, k .older))))),
 )

@@ -8,7 +8,7 @@ use Rattle.axis.specs.Formulas.{axisWith}
 
 -- an axis with another estimate
 abbrev pub estimating : Axis → Motion → Axis
-estimating a m = axisWith (a .first) (a .second) (a .samples) m
+estimating a m = axisWith (a .first) (a .second) (a .older) (a .samples) m
 
 -- each kind is the same
 unfoldable pub sameMotion : Motion → Motion → Bool

@@ -7,7 +7,8 @@ use lib.ListN.{take, replicate}
 use Rattle.integers.specs.Differences.{at, byDifferences, inFront}
 use Rattle.exact.specs.declared.Exact.{Exact}
 use Rattle.exact.specs.Numerator.{D, exactOf, numerator}
-use Rattle.coefficients.specs.Formulas.{positionPredictor, positionCorrector, velocityPredictor, velocityCorrector}
+use Rattle.coefficients.specs.declared.Formula.the-variants.{PositionCorrector, VelocityCorrector}
+use Rattle.coefficients.specs.Formulas.{positionPredictor, positionCorrector, velocityPredictor, velocityCorrector, olderPart}
 use Rattle.axis.specs.declared.Motion.{Motion}
 use Rattle.axis.specs.declared.Axis.{Axis}
 
@@ -21,9 +22,9 @@ S1 a = numerator (a .first)
 abbrev pub S2 : Axis → ℤ
 S2 a = numerator (a .second)
 
--- an axis by its sums S1 and S2, its samples and its estimate: every axis is made by this
-abbrev pub axisWith : Exact → Exact → List ℤ → Motion → Axis
-axisWith first second samples estimate = record { first = first; second = second; samples = samples; estimate = estimate }
+-- an axis by its sums S1 and S2, the held sum of its older samples, its samples and its estimate: every axis is made by this
+abbrev pub axisWith : Exact → Exact → Motion → List ℤ → Motion → Axis
+axisWith first second older samples estimate = record { first = first; second = second; older = older; samples = samples; estimate = estimate }
 
 -- a position and a velocity, by their numerators
 unfoldable pub motionOf : ℤ → ℤ → Motion
@@ -31,6 +32,11 @@ motionOf position velocity = record { position = exactOf position; velocity = ex
 
 unfoldable pub still : Motion
 still = motionOf (pos 0) (pos 0)
+
+-- ---- what the p-1 older samples of the next point give to its corrected position and velocity; S1 and S2 are no part of it
+
+unfoldable pub olderMotion : ℕ → List ℤ → Motion
+olderMotion p xs = motionOf (olderPart PositionCorrector p (at xs)) (olderPart VelocityCorrector p (at xs))
 
 -- ---- the point n, from S2(n-1) = S2(n) - S1(n)
 
@@ -70,6 +76,7 @@ advancedAxis p a sample =
     axisWith
     (exactOf (S1 a +ℤ ticks sample))
     (exactOf (S2 a +ℤ (S1 a +ℤ ticks sample)))
+    (olderMotion p (keptSamples p sample (a .samples)))
     (keptSamples p sample (a .samples))
     still
 
@@ -79,9 +86,9 @@ unfoldable pub openedAxis : ℕ → Motion → List ℤ → Axis
 openedAxis p point xs =
     let s1 = numerator (point .velocity) -ℤ byDifferences (velocityCorrector p) (at xs) in
     let s2 = numerator (point .position) -ℤ byDifferences (positionCorrector p) (at xs) in
-    axisWith (exactOf s1) (exactOf (s2 +ℤ s1)) xs still
+    axisWith (exactOf s1) (exactOf (s2 +ℤ s1)) (olderMotion p xs) xs still
 
 -- ---- no point at all
 
 unfoldable pub emptyAxis : Axis
-emptyAxis = axisWith (exactOf (pos 0)) (exactOf (pos 0)) (replicate 9 (pos 0)) still
+emptyAxis = axisWith (exactOf (pos 0)) (exactOf (pos 0)) still (replicate 9 (pos 0)) still

@@ -8,8 +8,8 @@ use Rattle.integers.specs.Tests.{_and_, eqℤ}
 use Rattle.exact.specs.declared.Exact.{Exact}
 use Rattle.exact.specs.Numerator.{D, between}
 use Rattle.axis.specs.declared.Axis.{Axis}
-use Rattle.axis.specs.Formulas.{presentMotion}
-use Rattle.axis.specs.Estimates.{inRange}
+use Rattle.axis.specs.Formulas.{presentMotion, olderMotion}
+use Rattle.axis.specs.Estimates.{sameMotion, inRange}
 
 -- a remainder is from 0 to D - 1
 abbrev pub isRemainder : Exact → Bool
@@ -41,9 +41,18 @@ placesHold p [] = true
 placesHold zero (x ∷ xs) = placeHolds false x and placesHold zero xs
 placesHold (suc p) (x ∷ xs) = placeHolds true x and placesHold p xs
 
--- all rules of an axis: its remainders, its places, its present point and its estimate
+-- the held sum is true: the same, whole and part, as the one that the samples give
+unfoldable pub olderHolds : ℕ → Axis → Bool
+olderHolds p a = sameMotion (a .older) (olderMotion p (a .samples))
+
+-- all rules of an axis: its remainders, its places, its present point, its estimate and its held sum
 unfoldable pub axisHolds : ℕ → Axis → Bool
-axisHolds p a = remaindersHold a and placesHold p (a .samples) and inRange (presentMotion p a) and inRange (a .estimate)
+axisHolds p a =
+    remaindersHold a
+    and placesHold p (a .samples)
+    and inRange (presentMotion p a)
+    and inRange (a .estimate)
+    and olderHolds p a
 
 -- what the sums of an axis that holds are known to be, looked at before anything is added
 abbrev pub firstFits : Exact → Bool

@@ -9,7 +9,7 @@ pub fn with_estimate(a: Axis, estimate: Motion) -> Axis
     ensures { λ r. ⌜ r ≡ estimating a estimate ⌝ }
 {
     let samples = a.samples;
-    formulas::axis_with(a.first, a.second, samples, estimate)
+    formulas::axis_with(a.first, a.second, a.older, samples, estimate)
 }
 
 pub fn same_motion(a: Motion, b: Motion) -> bool

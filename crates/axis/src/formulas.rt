@@ -6,19 +6,26 @@ use exact::Exact;
 ghost use mathlib.Core.Path.{_≡_};
 ghost use Prim.Native.Nat.{_≤_, _^_};
 ghost use lib.IntN.{natAbs, _+ℤ_, _-ℤ_};
-ghost use Rattle.coefficients.specs.Formulas.{Small};
+ghost use Rattle.coefficients.specs.Formulas.{ownPart, Small};
 ghost use Rattle.exact.specs.Numerator.{exactOf, numerator, Bounded};
 ghost use Rattle.axis.specs.Formulas.{ticks, axisWith, still, emptyAxis};
-ghost use Rattle.axis.specs.Formulas.{presentMotion, predictedMotion, correctedMotion, keptSamples, advancedAxis, openedAxis};
-ghost use Rattle.axis.specs.Ready.{Ready, Placed};
+ghost use Rattle.axis.specs.Formulas.{presentMotion, predictedMotion, olderMotion, correctedMotion, keptSamples, advancedAxis, openedAxis};
+ghost use Rattle.axis.specs.Ready.{Ready, Held, Placed};
 
 // Every axis is made by this.
-pub fn axis_with(first: Exact, second: Exact, samples: [i64; 9], estimate: Motion) -> Axis
-    ensures { λ r. ⌜ r ≡ axisWith first second samples estimate ⌝ }
+pub fn axis_with(
+    first: Exact,
+    second: Exact,
+    older: Motion,
+    samples: [i64; 9],
+    estimate: Motion,
+) -> Axis
+    ensures { λ r. ⌜ r ≡ axisWith first second older samples estimate ⌝ }
 {
     Axis {
         first,
         second,
+        older,
         samples,
         estimate,
     }
@@ -64,21 +71,50 @@ pub fn next_first(first: Exact, sample: i64) -> Exact
     moved(first, sample * (Exact::D as i64))
 }
 
-// The next point, corrected with its sample.
+// What the samples so far give to the next corrected point.
+pub fn older_motion(p: usize, samples: [i64; 9]) -> Motion
+    requires { ⌜ (1 ≤ p) × (p ≤ 9) ⌝ }
+    requires { ⌜ Small samples ⌝ }
+    ensures { λ r. ⌜ r ≡ olderMotion p samples ⌝ }
+{
+    let position = Exact::split(coefficients::older_part(Formula::PositionCorrector, p, samples));
+    let velocity = Exact::split(coefficients::older_part(Formula::VelocityCorrector, p, samples));
+    Motion { position, velocity }
+}
+
+// A sum with what the older samples give, and then the point's own sample.
+fn corrected(which: Formula, p: usize, sum: Exact, older: Exact, sample: i64) -> Exact
+    requires { ⌜ (1 ≤ p) × (p ≤ 9) ⌝ }
+    requires { ⌜ Bounded (2 ^ 55) sum ⌝ }
+    requires { ⌜ Bounded (2 ^ 36) older ⌝ }
+    requires { ⌜ natAbs sample ≤ 2 ^ 28 ⌝ }
+    ensures { λ r. ⌜ r ≡ exactOf (numerator sum +ℤ numerator older +ℤ ownPart which p sample) ⌝ }
+{
+    let before = sum.add(older);
+    moved(before, coefficients::own_part(which, p, sample))
+}
+
+// The next point, corrected with its sample: from the sums, the held sum and the sample.
 pub fn corrected_motion(p: usize, a: Axis, sample: i64) -> Motion
     requires { ⌜ Ready p a ⌝ }
+    requires { ⌜ Held p a ⌝ }
     requires { ⌜ natAbs sample ≤ 2 ^ 28 ⌝ }
     ensures { λ r. ⌜ r ≡ correctedMotion p a sample ⌝ }
 {
-    let samples = a.samples;
-    let position = moved(
+    let position = corrected(
+        Formula::PositionCorrector,
+        p,
         a.second,
-        coefficients::next_sum(Formula::PositionCorrector, p, sample, samples),
+        a.older.position,
+        sample,
     );
     let first = next_first(a.first, sample);
-    let velocity = moved(
+    let velocity = corrected(
+        Formula::VelocityCorrector,
+        p,
         first,
-        coefficients::next_sum(Formula::VelocityCorrector, p, sample, samples),
+        a.older.velocity,
+        sample,
     );
     Motion { position, velocity }
 }
@@ -108,7 +144,8 @@ pub fn advanced_axis(p: usize, a: Axis, sample: i64) -> Axis
     let samples = keep_samples(p, sample, old);
     let first = next_first(a.first, sample);
     let second = a.second.add(first);
-    axis_with(first, second, samples, no_motion())
+    let older = older_motion(p, samples);
+    axis_with(first, second, older, samples, no_motion())
 }
 
 // What a change, given by its numerator, leaves of a value.
@@ -129,7 +166,8 @@ pub fn opened_axis(p: usize, point: Motion, samples: [i64; 9]) -> Axis
     let first = left_of(point.velocity, coefficients::velocity_corrector(p, samples));
     let before = left_of(point.position, coefficients::position_corrector(p, samples));
     let second = before.add(first);
-    axis_with(first, second, samples, no_motion())
+    let older = older_motion(p, samples);
+    axis_with(first, second, older, samples, no_motion())
 }
 
 pub fn no_motion() -> Motion
@@ -144,5 +182,6 @@ pub fn no_motion() -> Motion
 pub fn empty_axis() -> Axis
     ensures { λ r. ⌜ r ≡ emptyAxis ⌝ }
 {
-    axis_with(Exact::ZERO, Exact::ZERO, [0i64; 9], no_motion())
+    let none = no_motion();
+    axis_with(Exact::ZERO, Exact::ZERO, none, [0i64; 9], none)
 }

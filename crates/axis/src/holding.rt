@@ -82,5 +82,8 @@ pub fn axis_holds(p: usize, a: Axis) -> bool
     if !estimates::in_range(formulas::present_motion(p, a)) {
         return false;
     }
-    estimates::in_range(a.estimate)
+    if !estimates::in_range(a.estimate) {
+        return false;
+    }
+    estimates::same_motion(a.older, formulas::older_motion(p, samples))
 }

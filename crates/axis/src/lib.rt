@@ -20,6 +20,7 @@ pub use formulas::left_of;
 pub use formulas::moved;
 pub use formulas::next_first;
 pub use formulas::no_motion;
+pub use formulas::older_motion;
 pub use formulas::opened_axis;
 pub use formulas::predicted_motion;
 pub use formulas::present_motion;
@@ -38,10 +39,11 @@ pub struct Tolerances {
     pub velocity: u64,
 }
 
-// S1 and S2 at the last accepted point, the samples, newest first, and the last estimate.
+// S1 and S2 at the last accepted point, what the older samples give to the next corrected one, the samples, newest first, and the last estimate.
 pub struct Axis {
     pub first: Exact,
     pub second: Exact,
+    pub older: Motion,
     pub samples: [i64; 9],
     pub estimate: Motion,
 }

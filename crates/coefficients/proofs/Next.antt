@@ -4,10 +4,10 @@ use mathlib.Core.List.{List, [], _∷_}
 use Prim.Native.Nat.{ℕ, zero, suc, _+_, _-_, _≤_, zero-le}
 use native.Mathlib.Nat.{zero-add, suc-add}
 use native.Mathlib.Omega.{arith}
-use lib.IntN.{ℤ, pos, _+ℤ_, _*ℤ_, +ℤ-idl, zero-*ℤ, *ℤ-zero}
+use lib.IntN.{ℤ, pos, _+ℤ_, _*ℤ_, +ℤ-comm, +ℤ-idl, zero-*ℤ, *ℤ-zero}
 use lib.ListN.{take, drop}
-use Rattle.integers.specs.Differences.{at, inFront, bySamples, byDifferences, sizes}
-use Rattle.coefficients.specs.Formulas.{row, weightsOf, olderPart}
+use Rattle.integers.specs.Differences.{at, inFront, bySamples, byDifferences, ordinates, ordinates-law, sizes}
+use Rattle.coefficients.specs.Formulas.{row, weightsOf, olderPart, ownPart}
 use Rattle.coefficients.specs.declared.Formula.{Formula}
 use Rattle.coefficients.proofs.Rows.{row-law, length-weights, used-law}
 
@@ -39,8 +39,17 @@ module _ (f : Formula) (p : ℕ) (x : ℕ → ℤ) where
   unfolding olderPart
   older-law = sym (rw (*ℤ-zero (at (row (weightsOf f) p) 0)) (+ℤ-idl (bySamples (drop 1 (row (weightsOf f) p)) x))) ∙ front-law (pos 0)
 
-  pub next-law : (a : ℤ) → at (row (weightsOf f) p) 0 *ℤ a +ℤ olderPart f p x ≡ byDifferences (weightsOf f p) (inFront a x)
-  next-law a = ap (λ z. at (row (weightsOf f) p) 0 *ℤ a +ℤ z) (sym older-law) ∙ front-law a
+  -- the point's own part and the older one are the whole
+  pub next-law : (a : ℤ) → olderPart f p x +ℤ ownPart f p a ≡ byDifferences (weightsOf f p) (inFront a x)
+  unfolding ownPart
+  next-law a = +ℤ-comm (olderPart f p x) (ownPart f p a) ∙ ap (λ z. ownPart f p a +ℤ z) (sym older-law) ∙ front-law a
+
+  -- the older part by the weights by samples, of which the first is left out
+  pub older-ordinates : bySamples (drop 1 (ordinates (weightsOf f p))) x ≡ olderPart f p x
+  unfolding olderPart
+  older-ordinates =
+      let ws = ordinates (weightsOf f p) in
+      sym (rw (*ℤ-zero (at ws 0)) (+ℤ-idl (bySamples (drop 1 ws) x))) ∙ sym (by-front ws (pos 0) x) ∙ ordinates-law (weightsOf f p) (inFront (pos 0) x)
 
 -- ---- the older part by the weights that are used
 

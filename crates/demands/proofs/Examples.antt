@@ -12,15 +12,15 @@ use Rattle.exact.specs.Numerator.{D, exactOf, numerator, sameExact}
 use Rattle.coefficients.specs.Fraction.{times}
 use Rattle.coefficients.specs.Rules.{c, g, l, s, total, terms, next, divided}
 use Rattle.coefficients.specs.Scaled.{run}
-use Rattle.coefficients.specs.Formulas.{positionPredictor, positionCorrector, velocityPredictor, velocityCorrector, unsummedCowell, adamsMoulton}
+use Rattle.coefficients.specs.Formulas.{positionPredictor, positionCorrector, velocityPredictor, velocityCorrector, unsummedCowell, adamsMoulton, olderPart}
 use Rattle.ticks.specs.declared.Sample.{Sample}
 use Rattle.ticks.specs.declared.WholeSample.{WholeSample}
 use Rattle.ticks.specs.Round.{roundedOf}
 use Rattle.ticks.specs.Samples.{any, wholeOf}
-use Rattle.axis.specs.Formulas.{motionOf, still, presentMotion, predictedMotion, correctedMotion, keptSamples, advancedAxis, openedAxis, emptyAxis}
+use Rattle.axis.specs.Formulas.{motionOf, still, presentMotion, predictedMotion, correctedMotion, keptSamples, advancedAxis, openedAxis, emptyAxis, olderMotion}
 use Rattle.axis.specs.Estimates.{sameMotion, inRange}
 use Rattle.axis.specs.Agreement.{changeOf, sizes, agreesOn}
-use Rattle.axis.specs.Holding.{remaindersHold, samplesSmall, emptyZero}
+use Rattle.axis.specs.Holding.{remaindersHold, samplesSmall, emptyZero, olderHolds}
 use Rattle.session.specs.declared.Session.{Session}
 use Rattle.session.specs.declared.State.{State}
 use Rattle.session.specs.declared.State.the-variants.{Closed, Settled, Awaiting, Starting}
@@ -200,7 +200,7 @@ pub record Computed : Type 0 where
   pub noAgains : agains (start wide .corrections) (history inventingCorrections (start wide) (predict ∷ [])) ≡ 0
 
 pub computed : Computed
-unfolding add div ofInt firstOf byDifferences exactOf numerator sameExact times c g l s total terms next divided run positionPredictor positionCorrector velocityPredictor velocityCorrector unsummedCowell adamsMoulton roundedOf any motionOf still presentMotion predictedMotion correctedMotion keptSamples advancedAxis openedAxis emptyAxis sameMotion inRange changeOf sizes agreesOn remaindersHold samplesSmall emptyZero pointsHold settingsHold nowhere presentPoint estimateOf predictedPoint correctedPoint pointInRange pointsAgree pointChange settledAgain awaitingAt acceptedAt openedSession closedSession countsHold samePoint settledHolds estimateBegins awaitingHolds holds settled awaiting reportedMotion reportedPoint reportedChange noPoint noChange exactPoint axisSamples openedWith openRefusal full predictRefusal agrees largestChange isLast correctRefusal withdrawRefusal openOf predictOf correctOf withdrawOf firstSum secondBefore positionAt nextPosition
+unfolding add div ofInt firstOf byDifferences exactOf numerator sameExact times c g l s total terms next divided run positionPredictor positionCorrector velocityPredictor velocityCorrector olderPart unsummedCowell adamsMoulton roundedOf any motionOf still olderMotion presentMotion predictedMotion correctedMotion keptSamples advancedAxis openedAxis emptyAxis sameMotion inRange changeOf sizes agreesOn remaindersHold samplesSmall emptyZero olderHolds pointsHold settingsHold nowhere presentPoint estimateOf predictedPoint correctedPoint pointInRange pointsAgree pointChange settledAgain awaitingAt acceptedAt openedSession closedSession countsHold samePoint settledHolds estimateBegins awaitingHolds holds settled awaiting reportedMotion reportedPoint reportedChange noPoint noChange exactPoint axisSamples openedWith openRefusal full predictRefusal agrees largestChange isLast correctRefusal withdrawRefusal openOf predictOf correctOf withdrawOf firstSum secondBefore positionAt nextPosition
 computed =
     record {
       opens = refl;

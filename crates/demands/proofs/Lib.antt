@@ -2,6 +2,8 @@
 pub mod Ranges
 pub mod Conditions
 pub mod Fields
+pub mod Columns
+pub mod Sums
 pub mod Records
 pub mod Tables
 pub mod Standing
@@ -11,6 +13,8 @@ pub mod Cowell
 pub mod Alike
 pub mod Opens
 pub mod Ours
+pub mod Held
+pub mod Before
 pub mod Fractions
 pub mod RoundFractions
 pub mod Unique
@@ -23,3 +27,4 @@ pub mod TurnedDown
 pub mod Theorems
 pub mod Controls
 pub mod RoundControls
+pub mod HeldControls

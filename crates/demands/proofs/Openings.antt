@@ -19,6 +19,8 @@ use Rattle.demands.specs.Demands.{openNumber, startNumber, Demand3, Coun
 use Rattle.demands.specs.Theorems.{Alike, OfOpenings, OfStarts, refused7, Plain, Replaces}
 use Rattle.demands.proofs.Rounds.{not-open, not-starting, closed-not-starting, unopen, unstarting, first-closes}
 use Rattle.demands.proofs.Ours.{demand1}
+use Rattle.demands.specs.Held.{HeldTrue}
+use Rattle.demands.proofs.Held.{open-true, starting-true}
 use Rattle.demands.proofs.Records.{open-record, starting-record}
 
 -- ---- any implementation
@@ -87,6 +89,10 @@ closed s h f (refine floats) = unstarting s (starting-record s .no .1 f) floats
 -- an open record and a starting one keep the numbers of the settings
 pub bad-settings : (s : Session) → ¬ Settings (s .tolerances) (s .limit) → (call : Call) → (step ours s call ≡ s) × (event ours s call ≡ refused7 call)
 bad-settings s n = closed s (⊎-elim (λ h. n (h .filled .settings)) (λ h. n (h .filled .settings))) (λ h. n (h .settings))
+
+-- and their held sums are true
+pub untrue-sums : (s : Session) → ¬ HeldTrue s → (call : Call) → (step ours s call ≡ s) × (event ours s call ≡ refused7 call)
+untrue-sums s n = closed s (λ h. n (open-true s h)) (λ h. n (starting-true s h))
 
 module _ (s : Session) (h : ¬ OpenRecord s) (f : ¬ StartingRecord s) where
   stays : (calls : List Call) → after ours s calls ≡ s

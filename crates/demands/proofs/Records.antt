@@ -36,6 +36,7 @@ use Rattle.demands.specs.Records.{SampleInRange, Zero, Remainders, Fille
 use Rattle.demands.proofs.Ranges.{ProperPoint, range, present-range, track-range}
 use Rattle.demands.proofs.Conditions.{settings}
 use Rattle.demands.proofs.Fields.{samples-to, samples-from, empty-to, empty-from, zero-to, zero-from, still-to, still-from, remainders-to, remainders-from}
+use Rattle.demands.proofs.Sums.{sums-to, sums-from, no-sums-to, no-sums-from}
 
 -- ---- open records
 
@@ -67,6 +68,7 @@ module _ (s : Session) where
         present = present-range s .yes .0 (range-iff (presentPoint s) .1 (λ k. ap inRange (present-on s k) ∙ axis k .present-point));
         estimate = range (estimateOf s) (proper r) .yes .0 (range-iff (estimateOf s) .1 (λ k. ap inRange (estimate-on s k) ∙ axis k .estimate));
         empty = λ k. empty-to (s .points) (axisOf k s .samples) (axis k .empty-places);
+        older = sums-to s (λ k. axis k .older);
       }
 
   filled-from : Filled s → KeepsRules s
@@ -86,6 +88,7 @@ module _ (s : Session) where
           empty-places = empty-from (s .points) (axisOf k s .samples) (h .empty k);
           present-point = sym (ap inRange (present-on s k)) ∙ p k;
           estimate = sym (ap inRange (estimate-on s k)) ∙ e k;
+          older = sums-from s (h .older) k;
         });
       }
 
@@ -212,6 +215,7 @@ module _ (s : Session) where
             samples = λ k. on k .samples;
             accepted = h .accepted;
             sums = λ k. on k .sums;
+            older = no-sums-to s (h .older);
             empty = λ k. on k .empty;
             track = track-range (heldRound s) .yes .0 (h .points-range);
           }
@@ -232,6 +236,7 @@ module _ (s : Session) where
             settings = settings (s .tolerances) (s .limit) .yes .1 (h .settings);
             accepted = h .accepted;
             rounds = h .rounds;
+            older = no-sums-from s (h .older);
             on-x = on onX;
             on-y = on onY;
             on-z = on onZ;

@@ -11,13 +11,13 @@ use Rattle.exact.specs.Numerator.{D, exactOf, numerator, sameExact}
 use Rattle.coefficients.specs.Fraction.{times}
 use Rattle.coefficients.specs.Rules.{c, l, total, terms, next, divided}
 use Rattle.coefficients.specs.Scaled.{run}
-use Rattle.coefficients.specs.Formulas.{positionCorrector, velocityCorrector}
+use Rattle.coefficients.specs.Formulas.{positionCorrector, velocityCorrector, olderPart}
 use Rattle.ticks.specs.Round.{roundedOf}
 use Rattle.ticks.specs.Samples.{any}
 use Rattle.epoch_coefficients.specs.Formulas.{lessBefore, cut, earlierPosition, earlierVelocity, hasCentre}
-use Rattle.axis.specs.Formulas.{motionOf, still}
+use Rattle.axis.specs.Formulas.{motionOf, still, olderMotion}
 use Rattle.axis.specs.declared.Tolerances.{Tolerances}
-use Rattle.axis.specs.Estimates.{inRange}
+use Rattle.axis.specs.Estimates.{sameMotion, inRange}
 use Rattle.axis.specs.Agreement.{changeOf, sizes, agreesOn}
 use Rattle.axis.specs.Holding.{samplesSmall, emptyZero, placesHold}
 use Rattle.epoch_axis.specs.Formulas.{nextSums, backSums, runOn, runBack, newestSums, earlierMotion, centreSums, startedAxis}
@@ -32,7 +32,7 @@ use Rattle.steps.specs.Opening.{axisSamples}
 use Rattle.steps.specs.Refusals.{openRefusal, isLast}
 use Rattle.steps.specs.Steps.{openOf}
 use Rattle.epoch_session.specs.Rounds.{roundOf, earlierPoint, everyBelow, largestBelow, roundInRange, roundsAgree, largestMove}
-use Rattle.epoch_session.specs.Records.{heldRound, sumsZero, epochHolds, axisStarts, axesStart, startHolds, starting, startingAxis, startingSession, openedRound}
+use Rattle.epoch_session.specs.Records.{heldRound, sumsZero, olderZero, epochHolds, axisStarts, axesStart, startHolds, starting, startingAxis, startingSession, openedRound}
 use Rattle.epoch_steps.specs.declared.Outcome.{Outcome}
 use Rattle.epoch_steps.specs.declared.Outcome.the-variants as R
 use Rattle.epoch_steps.specs.Answers.{pointsFrom, roundPoints, noPoints}
@@ -128,7 +128,7 @@ pub record Computed : Type 0 where
   pub countedOnce : mores 0 (history neverCounting begun moved) ≡ 1
 
 pub computed : Computed
-unfolding add div ofInt firstOf byDifferences exactOf numerator sameExact times c l total terms next divided run positionCorrector velocityCorrector roundedOf any motionOf still inRange changeOf sizes agreesOn samplesSmall emptyZero placesHold pointsHold settingsHold nowhere estimateOf pointInRange pointsAgree pointChange closedSession reportedMotion reportedPoint reportedChange noPoint noChange exactPoint axisSamples openRefusal openOf isLast lessBefore cut earlierPosition earlierVelocity hasCentre nextSums backSums runOn runBack newestSums earlierMotion centreSums startedAxis heldRound sumsZero epochHolds axisStarts axesStart startHolds starting startingAxis startingSession openedRound roundOf earlierPoint everyBelow largestBelow roundInRange roundsAgree largestMove pointsFrom roundPoints noPoints givenRound startRefusal laterRound refineRefusal startOf refineOf
+unfolding add div ofInt firstOf byDifferences exactOf numerator sameExact times c l total terms next divided run positionCorrector velocityCorrector olderPart roundedOf any motionOf still olderMotion sameMotion inRange changeOf sizes agreesOn samplesSmall emptyZero placesHold pointsHold settingsHold nowhere estimateOf pointInRange pointsAgree pointChange closedSession reportedMotion reportedPoint reportedChange noPoint noChange exactPoint axisSamples openRefusal openOf isLast lessBefore cut earlierPosition earlierVelocity hasCentre nextSums backSums runOn runBack newestSums earlierMotion centreSums startedAxis heldRound sumsZero olderZero epochHolds axisStarts axesStart startHolds starting startingAxis startingSession openedRound roundOf earlierPoint everyBelow largestBelow roundInRange roundsAgree largestMove pointsFrom roundPoints noPoints givenRound startRefusal laterRound refineRefusal startOf refineOf
 computed =
     record {
       unrefused = refl;

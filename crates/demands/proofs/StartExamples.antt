@@ -11,16 +11,16 @@ use Rattle.exact.specs.Numerator.{D, exactOf, numerator, sameExact}
 use Rattle.coefficients.specs.Fraction.{times}
 use Rattle.coefficients.specs.Rules.{c, g, l, s, total, terms, next, divided}
 use Rattle.coefficients.specs.Scaled.{run}
-use Rattle.coefficients.specs.Formulas.{positionCorrector, velocityCorrector, positionPredictor, velocityPredictor}
+use Rattle.coefficients.specs.Formulas.{positionCorrector, velocityCorrector, positionPredictor, velocityPredictor, olderPart}
 use Rattle.ticks.specs.declared.Sample.{Sample}
 use Rattle.ticks.specs.declared.WholeSample.{WholeSample}
 use Rattle.ticks.specs.Round.{roundedOf}
 use Rattle.ticks.specs.Samples.{any}
 use Rattle.epoch_coefficients.specs.Formulas.{lessBefore, cut, earlierPosition, earlierVelocity, hasCentre}
-use Rattle.axis.specs.Formulas.{motionOf, still, presentMotion, predictedMotion, correctedMotion, keptSamples, advancedAxis, openedAxis}
+use Rattle.axis.specs.Formulas.{motionOf, still, presentMotion, predictedMotion, correctedMotion, keptSamples, advancedAxis, openedAxis, olderMotion}
 use Rattle.axis.specs.Estimates.{sameMotion, inRange}
 use Rattle.axis.specs.Agreement.{changeOf, sizes, agreesOn}
-use Rattle.axis.specs.Holding.{remaindersHold, samplesSmall, emptyZero, placesHold}
+use Rattle.axis.specs.Holding.{remaindersHold, samplesSmall, emptyZero, olderHolds, placesHold}
 use Rattle.epoch_axis.specs.Formulas.{nextSums, backSums, runOn, runBack, newestSums, earlierMotion, centreSums, startedAxis}
 use Rattle.session.specs.declared.Session.{Session}
 use Rattle.session.specs.declared.State.the-variants.{Awaiting}
@@ -35,7 +35,7 @@ use Rattle.steps.specs.Opening.{axisSamples, openedWith}
 use Rattle.steps.specs.Refusals.{openRefusal, full, predictRefusal, agrees, largestChange, isLast, correctRefusal}
 use Rattle.steps.specs.Steps.{openOf, predictOf, correctOf}
 use Rattle.epoch_session.specs.Rounds.{roundOf, earlierPoint, everyBelow, largestBelow, roundInRange, roundsAgree, largestMove}
-use Rattle.epoch_session.specs.Records.{heldRound, sumsZero, epochHolds, axisStarts, axesStart, startHolds, starting, startingAxis, startingSession, openedRound}
+use Rattle.epoch_session.specs.Records.{heldRound, sumsZero, olderZero, epochHolds, axisStarts, axesStart, startHolds, starting, startingAxis, startingSession, openedRound}
 use Rattle.epoch_steps.specs.declared.Outcome.the-variants as R
 use Rattle.epoch_steps.specs.Answers.{pointsFrom, roundPoints, noPoints}
 use Rattle.epoch_steps.specs.Refusals.{givenRound, startRefusal, laterRound, refineRefusal}
@@ -92,9 +92,11 @@ pub record Computed : Type 0 where
   pub samples : samplesOf two ≡ samplesOfTwo
   pub samplesThere : samplesOf (entries (history ours openedThere twice)) ≡ samplesOfTwo
   pub samplesLoose : samplesOf (entries (history ours (opened loose) once)) ≡ samplesOfTwo
+  -- the held sum after the two points
+  pub older : after ours (opened begun) twice .x .older ≡ record { position = record { whole = pos 0; part = 23950080 }; velocity = record { whole = pos 3; part = 79833600 } }
 
 pub computed : Computed
-unfolding add div ofInt firstOf byDifferences exactOf numerator sameExact times c g l s total terms next divided run positionPredictor positionCorrector velocityPredictor velocityCorrector roundedOf any motionOf still presentMotion predictedMotion correctedMotion keptSamples advancedAxis openedAxis sameMotion inRange changeOf sizes agreesOn remaindersHold samplesSmall emptyZero placesHold pointsHold settingsHold nowhere presentPoint estimateOf predictedPoint correctedPoint pointInRange pointsAgree pointChange awaitingAt acceptedAt openedSession closedSession countsHold samePoint settledHolds estimateBegins awaitingHolds holds settled awaiting reportedMotion reportedPoint reportedChange noPoint noChange exactPoint axisSamples openedWith openRefusal full predictRefusal agrees largestChange isLast correctRefusal openOf predictOf correctOf lessBefore cut earlierPosition earlierVelocity hasCentre nextSums backSums runOn runBack newestSums earlierMotion centreSums startedAxis heldRound sumsZero epochHolds axisStarts axesStart startHolds starting startingAxis startingSession openedRound roundOf earlierPoint everyBelow largestBelow roundInRange roundsAgree largestMove pointsFrom roundPoints noPoints givenRound startRefusal laterRound refineRefusal startOf refineOf
+unfolding add div ofInt firstOf byDifferences exactOf numerator sameExact times c g l s total terms next divided run positionPredictor positionCorrector velocityPredictor velocityCorrector olderPart roundedOf any motionOf still olderMotion presentMotion predictedMotion correctedMotion keptSamples advancedAxis openedAxis sameMotion inRange changeOf sizes agreesOn remaindersHold samplesSmall emptyZero olderHolds placesHold pointsHold settingsHold nowhere presentPoint estimateOf predictedPoint correctedPoint pointInRange pointsAgree pointChange awaitingAt acceptedAt openedSession closedSession countsHold samePoint settledHolds estimateBegins awaitingHolds holds settled awaiting reportedMotion reportedPoint reportedChange noPoint noChange exactPoint axisSamples openedWith openRefusal full predictRefusal agrees largestChange isLast correctRefusal openOf predictOf correctOf lessBefore cut earlierPosition earlierVelocity hasCentre nextSums backSums runOn runBack newestSums earlierMotion centreSums startedAxis heldRound sumsZero olderZero epochHolds axisStarts axesStart startHolds starting startingAxis startingSession openedRound roundOf earlierPoint everyBelow largestBelow roundInRange roundsAgree largestMove pointsFrom roundPoints noPoints givenRound startRefusal laterRound refineRefusal startOf refineOf
 computed =
     record {
       points = refl;
@@ -108,4 +110,5 @@ computed =
       samples = refl;
       samplesThere = refl;
       samplesLoose = refl;
+      older = refl;
     }

@@ -3,6 +3,8 @@ pub mod Coordinates
 pub mod Histories
 pub mod Records
 pub mod Refusals
+pub mod Held
+pub mod Before
 pub mod ClosedForm
 pub mod Demands
 pub mod Fractions

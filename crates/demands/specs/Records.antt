@@ -2,13 +2,15 @@
 -- that breaks a clause here counts as closed. Every number is written out; no constant of the code stands for one. Definitions only.
 use mathlib.Core.Path.{_≡_}
 use mathlib.Core.Logic.{_⊎_}
-use Prim.Native.Nat.{ℕ, _*_, _^_, _≤_, _<_}
-use lib.IntN.{ℤ, pos, negℤ}
+use Prim.Native.Nat.{ℕ, zero, suc, _-_, _*_, _^_, _≤_, _<_}
+use lib.IntN.{ℤ, pos, negℤ, _+ℤ_, _*ℤ_}
 use lib.Signed.{_≤ℤ_, _<ℤ_}
-use Rattle.integers.specs.Differences.{at}
+use Rattle.integers.specs.Differences.{at, ordinates}
 use Rattle.exact.specs.declared.Exact.{Exact}
+use Rattle.coefficients.specs.Formulas.{positionCorrector, velocityCorrector}
 use Rattle.axis.specs.declared.Axis.{Axis}
 use Rattle.axis.specs.declared.Tolerances.{Tolerances}
+use Rattle.axis.specs.Kinds.{Kind, ofPosition, ofVelocity, valueOf}
 use Rattle.session.specs.declared.Point.{Point}
 use Rattle.session.specs.declared.Session.{Session}
 use Rattle.session.specs.declared.State.the-variants.{Settled, Awaiting, Starting}
@@ -49,7 +51,7 @@ TrackInRange r = (j : ℕ) → j < r .points → InRange (earlierPoint r j)
 abbrev pub SampleInRange : ℤ → Type 0
 SampleInRange a = (negℤ (pos 268435456) ≤ℤ a) × (a ≤ℤ pos 268435456)
 
--- an exact value that is zero, and the remainders of the four that a record has on a coordinate: S1, S2 and the estimate's two
+-- an exact value that is zero, and the remainders of four that a record has on a coordinate: S1, S2 and the estimate's two; `Means` has a held sum's
 abbrev pub Zero : Exact → Type 0
 Zero e = (e .whole ≡ pos 0) × (e .part ≡ 0)
 
@@ -67,6 +69,32 @@ SamplesInRange s = (k : Coordinate) (i : ℕ) → SampleInRange (at (axisOf k s 
 abbrev pub EmptyPlaces : Session → Type 0
 EmptyPlaces s = (k : Coordinate) (i : ℕ) → s .points ≤ i → at (axisOf k s .samples) i ≡ pos 0
 
+-- ---- the held sums: what the p-1 older samples of the next point give to its corrected position and velocity
+
+-- the weight that a corrector's row for p points has in column j + 1; column 1 is the next point's own
+abbrev pub column : Kind → ℕ → ℕ → ℤ
+column ofPosition p j = at (ordinates (positionCorrector p)) j
+column ofVelocity p j = at (ordinates (velocityCorrector p)) j
+
+-- w(1) a(0) + .. + w(n) a(n-1)
+unfoldable pub olderSum : (ℕ → ℤ) → (ℕ → ℤ) → ℕ → ℤ
+olderSum w a zero = pos 0
+olderSum w a (suc n) = olderSum w a n +ℤ w (suc n) *ℤ a n
+
+-- an exact value that is z over D, in the one form that it has
+pub record Means (e : Exact) (z : ℤ) : Type 0 where
+  pub part : e .part < perTick
+  pub value : e .whole *ℤ pos perTick +ℤ pos (e .part) ≡ z
+
+-- columns 2 to p times the newest p-1 samples that the record holds
+abbrev pub HeldSums : Session → Type 0
+HeldSums s =
+    (k : Coordinate) (kind : Kind) →
+    Means (valueOf kind (axisOf k s .older)) (olderSum (column kind (s .points)) (at (axisOf k s .samples)) (s .points - 1))
+
+abbrev pub NoHeldSums : Session → Type 0
+NoHeldSums s = (k : Coordinate) (kind : Kind) → Zero (valueOf kind (axisOf k s .older))
+
 -- ---- open records
 
 -- what a settled and an awaiting one both keep to
@@ -83,6 +111,8 @@ pub record Filled (s : Session) : Type 0 where
   pub estimate : InRange (estimateOf s)
   -- the empty places are zero
   pub empty : EmptyPlaces s
+  -- the held sums are true
+  pub older : HeldSums s
 
 -- a settled one has no estimate and no count
 pub record SettledRecord (s : Session) : Type 0 where
@@ -119,6 +149,7 @@ pub record StartingRecord (s : Session) : Type 0 where
   -- the rest is zero: no point was accepted, and there are no sums and nothing in an empty place
   pub accepted : s .accepted ≡ 0
   pub sums : (k : Coordinate) → Zero (axisOf k s .first) × Zero (axisOf k s .second)
+  pub older : NoHeldSums s
   pub empty : EmptyPlaces s
   -- and the epoch and the samples give points in range
   pub track : TrackInRange (heldRound s)

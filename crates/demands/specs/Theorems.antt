@@ -22,6 +22,8 @@ use Rattle.session.specs.Coordinates.{Coordinate}
 use Rattle.session.specs.Requests.{Request}
 use Rattle.demands.specs.Histories.{Implementation, ours, Call, predict, correct, withdraw, refine, Event, predicting, correcting, withdrawing, refining, step, event, after, history, Act, opening, beginning, calling, lived, entries, samplesOf, agains}
 use Rattle.demands.specs.Records.{Settings, SettledRecord, AwaitingRecord, OpenRecord, StartingRecord}
+use Rattle.demands.specs.Held.{HeldTrue, HeldAfterCalls}
+use Rattle.demands.specs.Before.{before, Unchanged}
 use Rattle.demands.specs.ClosedForm.{Origin, Begins, place, openingSamples, origin, startOrigin}
 use Rattle.demands.specs.Demands.{openNumber, startNumber, Demand1, Demand2, Formulas, Unsummed, UnsummedInTicks, SamePoint, Demand3, Counts, Leaves, Agree}
 use Rattle.demands.specs.Fractions.{InFractions}
@@ -94,6 +96,9 @@ pub record OurCalls : Type 0 where
   pub demand3 : Demand3 ours
   pub counts : Counts ours
   pub leaves : Leaves ours
+  -- hold the sum of the older samples: true after any calls, and no answer is another than it was without it
+  pub held : HeldAfterCalls ours
+  pub unchanged : Unchanged ours before
   -- and in fractions of a tick: demand 2, also of the points of rounds, and demand 3
   pub inFractions : InFractions ours
   pub inTicks : (o : Origin) (s : Session) → Begins o s → (calls : List Call) → UnsummedInTicks o (entries (history ours s calls))
@@ -114,6 +119,8 @@ pub record OurCalls : Type 0 where
   pub closed : (s : Session) → ¬ OpenRecord s → ¬ StartingRecord s → (call : Call) → (step ours s call ≡ s) × (event ours s call ≡ refused7 call)
   -- such is a record of which a tolerance or the limit is out of range
   pub badSettings : (s : Session) → ¬ Settings (s .tolerances) (s .limit) → (call : Call) → (step ours s call ≡ s) × (event ours s call ≡ refused7 call)
+  -- and one whose held sums are not true
+  pub untrueSums : (s : Session) → ¬ HeldTrue s → (call : Call) → (step ours s call ≡ s) × (event ours s call ≡ refused7 call)
   -- after an `open` that was refused nothing is accepted, and the record stays closed and zero
   pub unopened : (s : Session) (r : Request) → NotZero (openNumber ours s r) → (calls : List Call) →
       (after ours (ours .opens s r .session) calls ≡ closedSession) × (entries (history ours (ours .opens s r .session) calls) ≡ [])

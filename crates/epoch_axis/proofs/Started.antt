@@ -60,4 +60,4 @@ started-holds p epoch xs h m x r =
     let a = startedAxis p epoch xs in
     let b = started-ready p epoch xs h m (small-samples p xs x) in
     axis-holds p a (record { first = b .first .small; second = b .second .small; position = still-placed .position .small; velocity = still-placed .velocity .small })
-    x (ap inRange (sym (newest p a)) ∙ r) (placed-in-range still still-placed)
+    x (ap inRange (sym (newest p a)) ∙ r) (placed-in-range still still-placed) (record { older = refl })

@@ -7,7 +7,7 @@ use Rattle.exact.specs.Numerator.{exactOf, numerator}
 use Rattle.epoch_coefficients.specs.Formulas.{earlierPosition, earlierVelocity}
 use Rattle.axis.specs.declared.Motion.{Motion}
 use Rattle.axis.specs.declared.Axis.{Axis}
-use Rattle.axis.specs.Formulas.{S1, S2, ticks, axisWith, motionOf, still}
+use Rattle.axis.specs.Formulas.{S1, S2, ticks, axisWith, motionOf, still, olderMotion}
 use Rattle.epoch_axis.specs.declared.Sums.{Sums}
 
 -- ---- S1 at a point and S2 at the point before it, run by their own rules
@@ -64,4 +64,4 @@ centreSums p epoch xs =
 unfoldable pub startedAxis : ℕ → Motion → List ℤ → Axis
 startedAxis p epoch xs =
     let s = runOn (at xs) (centre p) (centreSums p epoch xs) in
-    axisWith (s .first) (exactOf (numerator (s .before) +ℤ numerator (s .first))) xs still
+    axisWith (s .first) (exactOf (numerator (s .before) +ℤ numerator (s .first))) (olderMotion p xs) xs still

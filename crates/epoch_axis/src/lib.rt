@@ -6,6 +6,7 @@ use axis::left_of;
 use axis::moved;
 use axis::next_first;
 use axis::no_motion;
+use axis::older_motion;
 use exact::Exact;
 ghost use mathlib.Core.Path.{_≡_};
 ghost use mathlib.Core.Bool.{true};
@@ -72,7 +73,8 @@ pub fn started_axis(p: usize, epoch: Motion, samples: [i64; 9]) -> Axis
     let sums = run_on(samples, j, centre_sums(p, epoch, samples));
     let first = sums.first;
     let second = sums.before.add(first);
-    axis_with(first, second, samples, no_motion())
+    let older = older_motion(p, samples);
+    axis_with(first, second, older, samples, no_motion())
 }
 
 // The sums j steps before the newest point.

@@ -13,8 +13,10 @@ use Rattle.epoch_coefficients.specs.Formulas.{hasCentre}
 use Rattle.epoch_coefficients.proofs.Centre.{at-least-3, at-most-9}
 use Rattle.axis.specs.declared.Motion.{Motion}
 use Rattle.axis.specs.declared.Tolerances.{Tolerances}
+use Rattle.axis.specs.Formulas.{still}
 use Rattle.axis.specs.Estimates.{inRange}
 use Rattle.axis.specs.Holding.{placesHold}
+use Rattle.axis.proofs.Agreement.{motions-refl}
 use Rattle.epoch_axis.specs.Formulas.{startedAxis}
 use Rattle.epoch_axis.proofs.Kept.{newest}
 use Rattle.epoch_axis.proofs.Started.{started-holds}
@@ -29,7 +31,7 @@ use Rattle.session.proofs.Values.{range-iff}
 use Rattle.session.proofs.Rules.{settings-hold, counts-hold, settled-by}
 use Rattle.epoch_session.specs.declared.Round.{Round}
 use Rattle.epoch_session.specs.Rounds.{roundOf, earlierPoint, roundInRange}
-use Rattle.epoch_session.specs.Records.{heldRound, sumsZero, epochHolds, axisStarts, starting, startingAxis, startingSession, openedRound}
+use Rattle.epoch_session.specs.Records.{heldRound, sumsZero, olderZero, epochHolds, axisStarts, starting, startingAxis, startingSession, openedRound}
 use Rattle.epoch_session.proofs.Below.{every-at}
 use Rattle.epoch_session.proofs.Rules.{by-rules}
 
@@ -49,6 +51,10 @@ axis-starts : (p : ℕ) (m : Motion) (xs : List ℤ) → placesHold p xs ≡ tru
 unfolding axisStarts startingAxis sumsZero
 axis-starts p m xs x e = simp joined ((same-refl (exactOf (pos 0)), same-refl (exactOf (pos 0))), (x, e))
 
+older-starts : (m : Motion) (xs : List ℤ) → olderZero (startingAxis m xs) ≡ true
+unfolding olderZero startingAxis
+older-starts m xs = motions-refl still
+
 module _ (p : ℕ) (tolerances : Tolerances) (limit rounds : ℕ) (epoch : Point) (xs ys zs : List ℤ) where
   pub held-starting : heldRound (startingSession p tolerances limit rounds epoch xs ys zs) ≡ roundOf p epoch xs ys zs
   unfolding heldRound startingSession startingAxis estimateOf
@@ -65,6 +71,7 @@ module _ (p : ℕ) (tolerances : Tolerances) (limit rounds : ℕ) (epoch : Point
         settings = e;
         accepted = refl;
         rounds = n;
+        older = on-each _ (older-starts (epoch .x) xs) (older-starts (epoch .y) ys) (older-starts (epoch .z) zs);
         on-x = axis-starts p (epoch .x) xs x (q .on-x);
         on-y = axis-starts p (epoch .y) ys y (q .on-y);
         on-z = axis-starts p (epoch .z) zs z (q .on-z);

@@ -10,8 +10,8 @@ use Rattle.epoch_coefficients.specs.Formulas.{hasCentre}
 use Rattle.axis.specs.declared.Axis.{Axis}
 use Rattle.axis.specs.declared.Motion.{Motion}
 use Rattle.axis.specs.declared.Tolerances.{Tolerances}
-use Rattle.axis.specs.Formulas.{axisWith}
-use Rattle.axis.specs.Estimates.{inRange}
+use Rattle.axis.specs.Formulas.{axisWith, still}
+use Rattle.axis.specs.Estimates.{sameMotion, inRange}
 use Rattle.axis.specs.Holding.{placesHold}
 use Rattle.session.specs.declared.Point.{Point}
 use Rattle.session.specs.declared.Session.{Session}
@@ -19,6 +19,7 @@ use Rattle.session.specs.declared.State.{State}
 use Rattle.session.specs.declared.State.the-variants.{Closed, Settled, Awaiting, Starting}
 use Rattle.session.specs.Numbers.{settingsHold}
 use Rattle.session.specs.Moves.{estimateOf}
+use Rattle.session.specs.Holding.{everyAxis}
 use Rattle.epoch_session.specs.declared.Round.{Round}
 use Rattle.epoch_session.specs.Rounds.{roundOf, roundInRange}
 
@@ -32,6 +33,10 @@ heldRound s = roundOf (s .points) (estimateOf s) (s .x .samples) (s .y .samples)
 unfoldable pub sumsZero : Axis → Bool
 sumsZero a = sameExact (a .first) (exactOf (pos 0)) and sameExact (a .second) (exactOf (pos 0))
 
+-- the held sum is zero
+unfoldable pub olderZero : Axis → Bool
+olderZero a = sameMotion (a .older) still
+
 -- the epoch is whole and in range
 unfoldable pub epochHolds : Motion → Bool
 epochHolds m = eqb (m .position .part) 0 and eqb (m .velocity .part) 0 and inRange m
@@ -44,13 +49,14 @@ axisStarts p a = sumsZero a and placesHold p (a .samples) and epochHolds (a .est
 unfoldable pub axesStart : Session → Bool
 axesStart s = axisStarts (s .points) (s .x) and axisStarts (s .points) (s .y) and axisStarts (s .points) (s .z) and roundInRange (heldRound s)
 
--- p has a centre, the settings keep to their numbers, no point is accepted, and the count of later rounds is below the limit
+-- p has a centre, the settings keep to their numbers, no point is accepted, the count of later rounds is below the limit, and the held sums are zero
 unfoldable pub startHolds : Session → Bool
 startHolds s =
     hasCentre (s .points)
     and settingsHold (s .tolerances) (s .limit)
     and eqb (s .accepted) 0
     and ltb (s .corrections) (s .limit)
+    and everyAxis s olderZero
     and axesStart s
 
 abbrev pub isStarting : State → Bool
@@ -66,7 +72,7 @@ starting s = isStarting (s .state) and startHolds s
 -- ---- what rounds leave
 
 unfoldable pub startingAxis : Motion → List ℤ → Axis
-startingAxis epoch xs = axisWith (exactOf (pos 0)) (exactOf (pos 0)) xs epoch
+startingAxis epoch xs = axisWith (exactOf (pos 0)) (exactOf (pos 0)) still xs epoch
 
 -- starting, after so many later rounds
 unfoldable pub startingSession : ℕ → Tolerances → ℕ → ℕ → Point → List ℤ → List ℤ → List ℤ → Session

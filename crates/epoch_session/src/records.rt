@@ -7,7 +7,9 @@ use axis::Motion;
 use axis::Tolerances;
 use axis::axis_with;
 use axis::in_range;
+use axis::no_motion;
 use axis::places_hold;
+use axis::same_motion;
 use epoch_coefficients::has_centre;
 use exact::Exact;
 use session::Point;
@@ -18,7 +20,8 @@ use session::settings_hold;
 ghost use mathlib.Core.Path.{_≡_};
 ghost use mathlib.Core.Bool.{true};
 ghost use Rattle.epoch_coefficients.specs.Formulas.{hasCentre};
-ghost use Rattle.epoch_session.specs.Records.{heldRound, sumsZero, epochHolds, axisStarts, axesStart, startHolds, starting, startingAxis, startingSession, openedRound};
+ghost use Rattle.session.specs.Holding.{everyAxis};
+ghost use Rattle.epoch_session.specs.Records.{heldRound, sumsZero, olderZero, epochHolds, axisStarts, axesStart, startHolds, starting, startingAxis, startingSession, openedRound};
 ghost use Rattle.epoch_session.specs.Ready.{HoldsRound};
 
 fn sums_zero(a: Axis) -> bool
@@ -83,6 +86,25 @@ fn axes_start(s: Session) -> bool
     round_in_range(held_round(s))
 }
 
+fn older_zero(a: Axis) -> bool
+    ensures { λ r. ⌜ r ≡ olderZero a ⌝ }
+{
+    same_motion(a.older, no_motion())
+}
+
+// No axis holds a sum of older samples.
+fn olders_zero(s: Session) -> bool
+    ensures { λ r. ⌜ r ≡ everyAxis s olderZero ⌝ }
+{
+    if !older_zero(s.x) {
+        return false;
+    }
+    if !older_zero(s.y) {
+        return false;
+    }
+    older_zero(s.z)
+}
+
 fn start_holds(s: Session) -> bool
     ensures { λ r. ⌜ r ≡ startHolds s ⌝ }
 {
@@ -96,6 +118,9 @@ fn start_holds(s: Session) -> bool
         return false;
     }
     if s.limit <= s.corrections {
+        return false;
+    }
+    if !olders_zero(s) {
         return false;
     }
     axes_start(s)
@@ -116,7 +141,7 @@ pub fn is_starting(s: Session) -> bool
 fn starting_axis(epoch: Motion, samples: [i64; 9]) -> Axis
     ensures { λ r. ⌜ r ≡ startingAxis epoch samples ⌝ }
 {
-    axis_with(Exact::ZERO, Exact::ZERO, samples, epoch)
+    axis_with(Exact::ZERO, Exact::ZERO, no_motion(), samples, epoch)
 }
 
 // Starting, after so many later rounds.

@@ -9,6 +9,7 @@ use drawing::Draw;
 use drawing::drawn;
 use drawing::sample_of;
 use session::WholePoint;
+use steps::AfterOpen;
 use steps::Correction;
 use steps::Opening;
 use steps::ReportedPoint;
@@ -79,10 +80,15 @@ fn opening_samples() -> Samples {
     }
 }
 
+// A session of nine points, opened at the start.
+fn opened(floats: [f64; 27]) -> AfterOpen {
+    stepper::owned::open(session::closed(), 9, tolerances(), 2, start(), &floats)
+}
+
 pub(crate) fn begin() -> Course {
     let samples = opening_samples();
     let floats = samples.floats;
-    let after = stepper::owned::open(session::closed(), 9, tolerances(), 2, start(), &floats);
+    let after = opened(floats);
     let answer = after.answer;
     let session = after.session;
     let seen = match answer {

@@ -4,6 +4,8 @@ use mathlib.Core.List.{List}
 use Rattle.session.specs.declared.Session.{Session}
 use Rattle.demands.specs.Histories.{Implementation, ours, Call, Event, after, history, entries, samplesOf}
 use Rattle.demands.specs.Records.{OpenRecord}
+use Rattle.demands.specs.Held.{HeldTrue}
+use Rattle.demands.specs.Before.{bare}
 use Rattle.demands.specs.ClosedForm.{Origin, Begins}
 use Rattle.demands.proofs.Theorems.{our-calls}
 use Rattle.promised.specs.Runs.{Runs, Keeps}
@@ -38,6 +40,8 @@ ours-meet =
       demand3 = our-calls .demand3;
       counts = our-calls .counts;
       leaves = our-calls .leaves;
+      held = our-calls .held;
+      unchanged = our-calls .unchanged;
       openings = our-calls .ofOpenings;
       starts = our-calls .ofStarts;
       replaces = our-calls .replaces;
@@ -101,5 +105,8 @@ promised =
       started = λ s left floats a h e. subst (Begins _) (sym (h .0)) (our-calls .demand3 .started s floats (sym (ap (λ b. b .outcome) (h .1)) ∙ e));
       keeps = λ o s left calls es b run. carried (Keeping o) run (keeps o s calls b);
       counts = λ s left calls es h run. carried (Counting s) run (counts s calls h);
+      held = λ s left acts h life. subst HeldTrue (sym (life-left life)) (our-calls .held .always s h acts);
+      unchangedAnswers = λ s left calls es h run. our-calls .unchanged .histories s h calls ∙ sym (run-told run);
+      unchangedRecord = λ s left acts h life. our-calls .unchanged .lives s h acts ∙ sym (ap bare (life-left life));
       alike = λ o s t left gone calls others es fs b d run other. alike o b d run other;
     }

@@ -22,6 +22,8 @@ use Rattle.epoch_steps.specs.declared.Outcome.the-variants as R
 use Rattle.demands.specs.Coordinates.{positionOf, velocityOf}
 use Rattle.demands.specs.Histories.{Implementation, ours, Call, Event, after, history, Act, lived, entries, samplesOf, agains}
 use Rattle.demands.specs.Records.{OpenRecord}
+use Rattle.demands.specs.Held.{HeldTrue, HeldAfterCalls}
+use Rattle.demands.specs.Before.{bare, before, Unchanged}
 use Rattle.demands.specs.ClosedForm.{Origin, Begins, origin, startOrigin, Stands, Told}
 use Rattle.demands.specs.Demands.{Demand1, Demand2, Formulas, Demand3, Counts, Leaves, Unsummed, UnsummedInTicks, position, velocity}
 use Rattle.demands.specs.Fractions.{ToldInTicks, InFractions}
@@ -52,6 +54,8 @@ pub record Meets (I : Implementation) : Type 0 where
   pub demand3 : Demand3 I
   pub counts : Counts I
   pub leaves : Leaves I
+  pub held : HeldAfterCalls I
+  pub unchanged : Unchanged I before
   pub openings : OfOpenings I
   pub starts : OfStarts I
   pub replaces : Replaces I
@@ -98,6 +102,10 @@ pub record Promised : Type 0 where
   -- from there on, whatever is called
   pub keeps : (o : Origin) (s left : Session) (calls : List Call) (es : List Event) → Begins o s → Runs s calls left es → Keeping o left es
   pub counts : (s left : Session) (calls : List Call) (es : List Event) → OpenRecord s → Runs s calls left es → Counting s left es
+  -- the held sums are true, and every answer and the rest of the record are those of the calls as they were without them
+  pub held : (s left : Session) (acts : List Act) → HeldTrue s → Lives s acts left → HeldTrue left
+  pub unchangedAnswers : (s left : Session) (calls : List Call) (es : List Event) → HeldTrue s → Runs s calls left es → history before (bare s) calls ≡ es
+  pub unchangedRecord : (s left : Session) (acts : List Act) → HeldTrue s → Lives s acts left → lived before (bare s) acts ≡ bare left
   -- opened alike, with the same samples accepted: at one point
   pub alike : (o : Origin) (s t left gone : Session) (calls others : List Call) (es fs : List Event) → Begins o s → Begins o t →
       Runs s calls left es → Runs t others gone fs → samplesOf (entries es) ≡ samplesOf (entries fs) → Together left gone

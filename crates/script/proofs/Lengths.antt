@@ -116,12 +116,20 @@ motion-words-short : (m : Motion) → length (flatten (motionWords m)) ≤ 86
 unfolding motionWords
 motion-words-short m = omega (arith, length-flatten (motionWords m), exactly-short (m .position), exactly-short (m .velocity))
 
-axis-short : (a : Axis) → length (flatten (axisWords a)) ≤ 370
+axis-short : (a : Axis) → length (flatten (axisWords a)) ≤ 456
 unfolding axisWords
 axis-short a =
-    omega (arith, length-flatten (axisWords a), exactly-short (a .first), exactly-short (a .second), numbers-short 9 (a .samples), motion-words-short (a .estimate))
+    omega (
+      arith,
+      length-flatten (axisWords a),
+      exactly-short (a .first),
+      exactly-short (a .second),
+      motion-words-short (a .older),
+      numbers-short 9 (a .samples),
+      motion-words-short (a .estimate),
+    )
 
-axes-short : (s : Session) → length (flatten (axesWords s)) ≤ 1110
+axes-short : (s : Session) → length (flatten (axesWords s)) ≤ 1368
 unfolding axesWords
 axes-short s = omega (arith, length-flatten (axesWords s), axis-short (s .x), axis-short (s .y), axis-short (s .z))
 
@@ -131,7 +139,7 @@ settings-short s =
     let t = s .tolerances in
     omega (arith, length-flatten (settingsWords s), natural-short (numberOf (s .state)), natural-short (s .points), two-short (t .position) (t .velocity), natural-short (s .limit))
 
-pub record-short : (s : Session) → total (recordLine s) ≤ 1264
+pub record-short : (s : Session) → total (recordLine s) ≤ 1522
 unfolding recordLine ascii
 record-short s = omega (arith, settings-short s, two-short (s .accepted) (s .corrections), axes-short s)
 

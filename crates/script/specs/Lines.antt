@@ -75,11 +75,12 @@ roundLine call a =
 unfoldable pub motionWords : Motion → List (List ℕ)
 motionWords m = flatten (exactly (m .position)) ∷ flatten (exactly (m .velocity)) ∷ []
 
--- two sums, nine samples, the estimate
+-- two sums, the held sum, nine samples, the estimate
 unfoldable pub axisWords : Axis → List (List ℕ)
 axisWords a =
     flatten (exactly (a .first))
     ∷ flatten (exactly (a .second))
+    ∷ flatten (motionWords (a .older))
     ∷ numbers (take 9 (a .samples))
     ∷ flatten (motionWords (a .estimate))
     ∷ []

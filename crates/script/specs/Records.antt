@@ -24,7 +24,7 @@ threeAt line at =
     let c = integerWord line (b .end) in
     record { a = a .value; b = b .value; c = c .value; end = c .end }
 
--- ---- one axis: the two sums, nine samples, the estimate
+-- ---- one axis: the two sums, the held sum, nine samples, the estimate
 
 -- the whole, and the part, which is below 2^32
 unfoldable pub exactAt : List ℕ → ℕ → ReadExact
@@ -50,9 +50,10 @@ unfoldable pub axisAt : List ℕ → ℕ → ReadAxis
 axisAt line at =
     let first = exactAt line at in
     let second = exactAt line (first .end) in
-    let samples = samplesAt line (second .end) in
+    let older = motionAt line (second .end) in
+    let samples = samplesAt line (older .end) in
     let estimate = motionAt line (samples .end) in
-    record { axis = axisWith (first .value) (second .value) (samples .samples) (estimate .value); end = estimate .end }
+    record { axis = axisWith (first .value) (second .value) (older .value) (samples .samples) (estimate .value); end = estimate .end }
 
 -- ---- the record: seven naturals, then three axes
 

@@ -113,8 +113,9 @@ fn put_axis(out: &mut [u8], at: usize, a: Axis) -> usize
     let samples = a.samples;
     let b = put_exact(out, at, a.first);
     let c = put_exact(out, b, a.second);
-    let d = put_numbers(out, c, samples, 9);
-    put_motion(out, d, a.estimate)
+    let d = put_motion(out, c, a.older);
+    let e = put_numbers(out, d, samples, 9);
+    put_motion(out, e, a.estimate)
 }
 
 fn number_of(s: State) -> u64

@@ -120,14 +120,16 @@ fn read_axis(line: &[u8], at: usize) -> ReadAxis
 {
     let first = read_exact(line, at);
     let second = read_exact(line, first.end);
-    let read = read_samples(line, second.end);
+    let held = read_motion(line, second.end);
+    let read = read_samples(line, held.end);
     let estimate = read_motion(line, read.end);
     let s1 = first.value;
     let s2 = second.value;
+    let older = held.value;
     let samples = read.samples;
     let motion = estimate.value;
     ReadAxis {
-        axis: axis::axis_with(s1, s2, samples, motion),
+        axis: axis::axis_with(s1, s2, older, samples, motion),
         end: estimate.end,
     }
 }

@@ -11,6 +11,7 @@ use Rattle.ticks.specs.declared.WholeSample.{WholeSample}
 use Rattle.ticks.specs.Samples.{WithinLimit}
 use Rattle.coefficients.specs.Formulas.{Small, largest}
 use Rattle.axis.specs.declared.Axis.{Axis}
+use Rattle.axis.specs.declared.Motion.{Motion}
 use Rattle.axis.specs.declared.Tolerances.{Tolerances}
 use Rattle.axis.specs.Formulas.{axisWith, motionOf, still, places, emptyAxis, advancedAxis, openedAxis}
 use Rattle.axis.specs.Estimates.{estimating, inRange}
@@ -147,7 +148,9 @@ unfolding holds countsHold pointsHold closedSession
 closed-fails = refl
 
 abbrev zeros : Axis
-zeros = axisWith (wholly (pos 0)) (wholly (pos 0)) (replicate 9 (pos 0)) (record { position = wholly (pos 0); velocity = wholly (pos 0) })
+zeros =
+    let none : Motion = record { position = wholly (pos 0); velocity = wholly (pos 0) } in
+    axisWith (wholly (pos 0)) (wholly (pos 0)) none (replicate 9 (pos 0)) none
 
 pub closed-is-zero : closedSession ≡ record {
   state = Closed;

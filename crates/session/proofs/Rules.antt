@@ -9,8 +9,8 @@ use lib.Dec.{eqb}
 use Rattle.integers.specs.Tests.{_and_, agree, joined}
 use Rattle.axis.specs.declared.Tolerances.{Tolerances}
 use Rattle.axis.specs.Estimates.{inRange}
-use Rattle.axis.specs.Ready.{Ready, Tolerable}
-use Rattle.axis.specs.Holding.{remaindersHold, samplesSmall, emptyZero, axisHolds}
+use Rattle.axis.specs.Ready.{Ready, Held, Tolerable}
+use Rattle.axis.specs.Holding.{remaindersHold, samplesSmall, emptyZero, olderHolds, axisHolds}
 use Rattle.session.specs.declared.Point.{Point}
 use Rattle.session.specs.declared.Session.{Session}
 use Rattle.session.specs.declared.State.{State}
@@ -20,7 +20,7 @@ use Rattle.session.specs.Numbers.{pointsHold, settingsHold, mostPoints}
 use Rattle.session.specs.Moves.{nowhere, presentPoint, estimateOf, predictedPoint, pointInRange}
 use Rattle.session.specs.Holding.{countsHold, samePoint, settledHolds, estimateBegins, awaitingHolds, stateHolds, holds, isSettled, isAwaiting, settled, awaiting}
 use Rattle.session.specs.Ready.{ReadySession, Waiting}
-use Rattle.axis.proofs.Sound.{KeepsAxis, holds-by-rules, axis-ready, estimate-placed}
+use Rattle.axis.proofs.Sound.{KeepsAxis, holds-by-rules, axis-ready, axis-held, estimate-placed}
 use Rattle.session.proofs.Coordinates.{on-each, coordinates-iff, present-on, estimate-on}
 use Rattle.session.proofs.Values.{range-by-axes, range-iff, same-point-true, same-point}
 
@@ -61,13 +61,14 @@ pub record Holding (s : Session) : Type 0 where
 pub holding : (s : Session) → holds s ≡ true → Holding s
 unfolding holds
 holding s h =
-    let (c, ((xs, (ys, zs)), ((xr, (yr, zr)), (p, (e, ((xz, (yz, zz)), st)))))) = simp joined at h in
+    let (c, ((xs, (ys, zs)), ((xr, (yr, zr)), (p, (e, ((xz, (yz, zz)), ((xo, (yo, zo)), st))))))) = simp joined at h in
     let axes : (k : Coordinate) → KeepsAxis (s .points) (axisOf k s) = λ k. record {
       samples = on-each (λ k. samplesSmall (axisOf k s .samples) ≡ true) xs ys zs k;
       remainders = on-each (λ k. remaindersHold (axisOf k s) ≡ true) xr yr zr k;
       present-point = sym (ap inRange (present-on s k)) ∙ range-iff (presentPoint s) .0 p k;
       estimate = sym (ap inRange (estimate-on s k)) ∙ range-iff (estimateOf s) .0 e k;
       empty-places = on-each (λ k. emptyZero (s .points) (axisOf k s .samples) ≡ true) xz yz zz k;
+      older = on-each (λ k. olderHolds (s .points) (axisOf k s) ≡ true) xo yo zo k;
     } in
     record { rules = record { counts = c; axes = λ k. holds-by-rules (s .points) (axisOf k s) .1 (axes k) }; state = st }
 
@@ -84,7 +85,8 @@ holds-by s h =
     (also (range-iff (presentPoint s) .1 (λ k. ap inRange (present-on s k) ∙ rule k .present-point))
     (also (range-iff (estimateOf s) .1 (λ k. ap inRange (estimate-on s k) ∙ rule k .estimate))
     (also (coordinates-iff (λ k. emptyZero (s .points) (axisOf k s .samples)) .1 (λ k. rule k .empty-places))
-    (h .state))))))
+    (also (coordinates-iff (λ k. olderHolds (s .points) (axisOf k s)) .1 (λ k. rule k .older))
+    (h .state)))))))
 
 -- the paper's rules, one for all axes after another, are the code's tests, one axis after another
 pub as-tested : (s : Session) → holds s ≡ (countsHold s and axisHolds (s .points) (s .x) and axisHolds (s .points) (s .y) and axisHolds (s .points) (s .z) and stateHolds (s .state) s)
@@ -119,7 +121,8 @@ pub ready : (s : Session) → KeepsRules s → ReadySession s
 ready s h =
     let some = counts-are s (h .counts) .points in
     let axis : (k : Coordinate) → Ready (s .points) (axisOf k s) = λ k. axis-ready (s .points) (axisOf k s) (h .axes k) some in
-    record { on-x = axis onX; on-y = axis onY; on-z = axis onZ }
+    let held : (k : Coordinate) → Held (s .points) (axisOf k s) = λ k. axis-held (s .points) (axisOf k s) (h .axes k) in
+    record { on-x = axis onX; on-y = axis onY; on-z = axis onZ; held-x = held onX; held-y = held onY; held-z = held onZ }
 
 -- ---- a settled record
 

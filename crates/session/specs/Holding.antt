@@ -3,7 +3,7 @@ use mathlib.Core.Bool.{Bool, true, false, not, _||_}
 use lib.Dec.{eqb, leb, ltb}
 use Rattle.integers.specs.Tests.{_and_}
 use Rattle.axis.specs.declared.Axis.{Axis}
-use Rattle.axis.specs.Holding.{remaindersHold, samplesSmall, emptyZero}
+use Rattle.axis.specs.Holding.{remaindersHold, samplesSmall, emptyZero, olderHolds}
 use Rattle.session.specs.declared.Point.{Point}
 use Rattle.session.specs.declared.Session.{Session}
 use Rattle.session.specs.declared.State.{State}
@@ -43,7 +43,7 @@ stateHolds Awaiting s = awaitingHolds s
 stateHolds Starting s = false
 
 -- the record is open: no field breaks the numbers, every remainder is from 0 to D - 1, the sums give a present point in range,
--- the estimate is in range, every empty sample place is zero, and the state's own rules are kept
+-- the estimate is in range, every empty sample place is zero, the held sums are true, and the state's own rules are kept
 unfoldable pub holds : Session → Bool
 holds s =
     countsHold s
@@ -52,6 +52,7 @@ holds s =
     and pointInRange (presentPoint s)
     and pointInRange (estimateOf s)
     and everyAxis s (λ a. emptyZero (s .points) (a .samples))
+    and everyAxis s (olderHolds (s .points))
     and stateHolds (s .state) s
 
 abbrev pub isSettled : State → Bool

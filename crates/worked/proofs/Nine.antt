@@ -10,11 +10,11 @@ use Rattle.exact.specs.Numerator.{exactOf, numerator, sameExact}
 use Rattle.coefficients.specs.Fraction.{times}
 use Rattle.coefficients.specs.Rules.{c, l, total, terms, next, divided}
 use Rattle.coefficients.specs.Scaled.{run}
-use Rattle.coefficients.specs.Formulas.{positionCorrector, velocityCorrector}
+use Rattle.coefficients.specs.Formulas.{positionCorrector, velocityCorrector, olderPart}
 use Rattle.ticks.specs.Round.{roundedOf}
 use Rattle.ticks.specs.Samples.{any}
-use Rattle.axis.specs.Formulas.{motionOf, still}
-use Rattle.axis.specs.Estimates.{inRange}
+use Rattle.axis.specs.Formulas.{motionOf, still, olderMotion}
+use Rattle.axis.specs.Estimates.{sameMotion, inRange}
 use Rattle.axis.specs.Agreement.{sizes}
 use Rattle.axis.specs.Holding.{placesHold}
 use Rattle.session.specs.Numbers.{pointsHold, settingsHold}
@@ -26,7 +26,7 @@ use Rattle.steps.specs.Opening.{axisSamples}
 use Rattle.steps.specs.Refusals.{isLast}
 use Rattle.epoch_coefficients.specs.Formulas.{lessBefore, cut, earlierPosition, earlierVelocity, hasCentre}
 use Rattle.epoch_axis.specs.Formulas.{nextSums, backSums, runOn, runBack, newestSums, earlierMotion, centreSums, startedAxis}
-use Rattle.epoch_session.specs.Records.{heldRound, sumsZero, epochHolds, axisStarts, axesStart, startHolds, starting, startingAxis, startingSession, openedRound}
+use Rattle.epoch_session.specs.Records.{heldRound, sumsZero, olderZero, epochHolds, axisStarts, axesStart, startHolds, starting, startingAxis, startingSession, openedRound}
 use Rattle.epoch_session.specs.Rounds.{roundOf, earlierPoint, everyBelow, largestBelow, roundInRange, roundsAgree, largestMove}
 use Rattle.epoch_steps.specs.Answers.{pointsFrom, roundPoints}
 use Rattle.epoch_steps.specs.Refusals.{firstRound, givenRound, startRefusal, laterRound}
@@ -52,7 +52,7 @@ record Computed : Type 0 where
   shown-3 : ofRound (judgedFrom true (between 1 second) second third) ≡ shows 0 3 thirdTrack none (opens third)
 
 computed : Computed
-unfolding ofInt byDifferences exactOf numerator times c l total terms next divided run positionCorrector velocityCorrector roundedOf lessBefore cut earlierPosition earlierVelocity motionOf still sizes nowhere exactPoint estimateOf pointInRange pointsAgree pointChange closedSession reportedMotion reportedPoint reportedChange noPoint noChange axisSamples nextSums backSums runOn runBack newestSums earlierMotion centreSums startedAxis roundOf earlierPoint everyBelow largestBelow roundInRange roundsAgree largestMove heldRound startingAxis startingSession openedRound pointsFrom roundPoints givenRound laterRound
+unfolding ofInt byDifferences exactOf numerator times c l total terms next divided run positionCorrector velocityCorrector olderPart roundedOf lessBefore cut earlierPosition earlierVelocity motionOf still olderMotion sizes nowhere exactPoint estimateOf pointInRange pointsAgree pointChange closedSession reportedMotion reportedPoint reportedChange noPoint noChange axisSamples nextSums backSums runOn runBack newestSums earlierMotion centreSums startedAxis roundOf earlierPoint everyBelow largestBelow roundInRange roundsAgree largestMove heldRound startingAxis startingSession openedRound pointsFrom roundPoints givenRound laterRound
 computed =
     record {
       round-1 = refl;
@@ -75,11 +75,11 @@ unfolding ofInt firstOf roundedOf any pointsHold settingsHold pointInRange exact
 unrefused-1 = ap (λ t. firstOf ((not t, 6) ∷ [])) (ap roundInRange (computed .round-1) ∙ computed .inside-1)
 
 holds-1 : starting (between 0 first) ≡ true
-unfolding exactOf sameExact inRange placesHold settingsHold hasCentre sumsZero epochHolds axisStarts axesStart startHolds starting
+unfolding exactOf sameExact motionOf still sameMotion inRange placesHold settingsHold hasCentre sumsZero olderZero epochHolds axisStarts axesStart startHolds starting
 holds-1 = ap roundInRange (computed .held-1) ∙ computed .inside-1
 
 holds-2 : starting (between 1 second) ≡ true
-unfolding exactOf sameExact inRange placesHold settingsHold hasCentre sumsZero epochHolds axisStarts axesStart startHolds starting
+unfolding exactOf sameExact motionOf still sameMotion inRange placesHold settingsHold hasCentre sumsZero olderZero epochHolds axisStarts axesStart startHolds starting
 holds-2 = ap roundInRange (computed .held-2) ∙ computed .inside-2
 
 pieces-2 : Pieces (between 0 first) secondFloats first second false

@@ -9,13 +9,13 @@ use Rattle.exact.specs.Numerator.{exactOf, numerator, sameExact}
 use Rattle.coefficients.specs.Fraction.{times}
 use Rattle.coefficients.specs.Rules.{c, g, l, s, total, terms, next, divided}
 use Rattle.coefficients.specs.Scaled.{run}
-use Rattle.coefficients.specs.Formulas.{positionPredictor, positionCorrector, velocityPredictor, velocityCorrector}
+use Rattle.coefficients.specs.Formulas.{positionPredictor, positionCorrector, velocityPredictor, velocityCorrector, olderPart}
 use Rattle.ticks.specs.Round.{roundedOf}
 use Rattle.ticks.specs.Samples.{any}
-use Rattle.axis.specs.Formulas.{motionOf, still, presentMotion, predictedMotion, correctedMotion, keptSamples, advancedAxis, openedAxis, emptyAxis}
-use Rattle.axis.specs.Estimates.{inRange}
+use Rattle.axis.specs.Formulas.{motionOf, still, presentMotion, predictedMotion, correctedMotion, keptSamples, advancedAxis, openedAxis, emptyAxis, olderMotion}
+use Rattle.axis.specs.Estimates.{sameMotion, inRange}
 use Rattle.axis.specs.Agreement.{sizes}
-use Rattle.axis.specs.Holding.{remaindersHold, samplesSmall, emptyZero, placesHold}
+use Rattle.axis.specs.Holding.{remaindersHold, samplesSmall, emptyZero, olderHolds, placesHold}
 use Rattle.session.specs.Numbers.{pointsHold, settingsHold}
 use Rattle.session.specs.Moves.{nowhere, presentPoint, estimateOf, predictedPoint, correctedPoint, pointInRange, settledAgain, awaitingAt, acceptedAt, openedSession, closedSession}
 use Rattle.session.specs.Apart.{pointsAgree, pointChange}
@@ -27,12 +27,12 @@ use Rattle.steps.specs.Refusals.{openRefusal, full, predictRefusal, agrees, lar
 use Rattle.steps.specs.Steps.{openOf, predictOf, correctOf, withdrawOf}
 use Rattle.epoch_coefficients.specs.Formulas.{lessBefore, cut, earlierPosition, earlierVelocity, hasCentre}
 use Rattle.epoch_axis.specs.Formulas.{nextSums, backSums, runOn, runBack, newestSums, earlierMotion, centreSums, startedAxis}
-use Rattle.epoch_session.specs.Records.{heldRound, sumsZero, epochHolds, axisStarts, axesStart, startHolds, starting, startingAxis, startingSession, openedRound}
+use Rattle.epoch_session.specs.Records.{heldRound, sumsZero, olderZero, epochHolds, axisStarts, axesStart, startHolds, starting, startingAxis, startingSession, openedRound}
 use Rattle.epoch_session.specs.Rounds.{roundOf, earlierPoint, everyBelow, largestBelow, roundInRange, roundsAgree, largestMove}
 use Rattle.epoch_steps.specs.Answers.{pointsFrom, roundPoints, noPoints}
 use Rattle.epoch_steps.specs.Refusals.{givenRound, startRefusal, laterRound, refineRefusal}
 use Rattle.epoch_steps.specs.Steps.{startOf, refineOf}
-use Rattle.worked.specs.Filled.{numbers, values, states}
+use Rattle.worked.specs.Filled.{numbers, values, olderSums, states}
 use Rattle.worked.specs.Starting.{settings, axes}
 use Rattle.worked.specs.Refused.{openings, predictions, corrections, firstRounds, laterRounds}
 use Rattle.worked.specs.Steps3 as Steps3
@@ -45,6 +45,7 @@ use Rattle.worked.proofs.Nine.{nine-hold}
 record Computed : Type 0 where
   of-numbers : All numbers
   of-values : All values
+  of-olderSums : All olderSums
   of-states : All states
   of-settings : All settings
   of-axes : All axes
@@ -58,14 +59,15 @@ record Computed : Type 0 where
   of-rounds-3 : All Rounds3.rows
 
 computed : Computed
-unfolding ofInt firstOf byDifferences exactOf numerator sameExact times c g l s total terms next divided run positionPredictor positionCorrector velocityPredictor velocityCorrector roundedOf any motionOf still presentMotion predictedMotion correctedMotion keptSamples advancedAxis openedAxis emptyAxis inRange sizes remaindersHold samplesSmall emptyZero pointsHold settingsHold nowhere presentPoint estimateOf predictedPoint correctedPoint pointInRange pointsAgree pointChange settledAgain awaitingAt acceptedAt openedSession closedSession countsHold samePoint settledHolds estimateBegins awaitingHolds holds settled awaiting reportedMotion reportedPoint reportedChange noPoint noChange exactPoint axisSamples openedWith openRefusal full predictRefusal agrees largestChange isLast correctRefusal openOf predictOf correctOf placesHold lessBefore cut earlierPosition earlierVelocity hasCentre nextSums backSums runOn runBack newestSums earlierMotion centreSums startedAxis heldRound sumsZero epochHolds axisStarts axesStart startHolds starting startingAxis startingSession openedRound roundOf earlierPoint everyBelow largestBelow roundInRange roundsAgree largestMove pointsFrom roundPoints noPoints givenRound startRefusal laterRound refineRefusal startOf refineOf withdrawOf withdrawRefusal
+unfolding ofInt firstOf byDifferences exactOf numerator sameExact times c g l s total terms next divided run positionPredictor positionCorrector velocityPredictor velocityCorrector olderPart roundedOf any motionOf still olderMotion presentMotion predictedMotion correctedMotion keptSamples advancedAxis openedAxis emptyAxis sameMotion inRange sizes remaindersHold samplesSmall emptyZero olderHolds pointsHold settingsHold nowhere presentPoint estimateOf predictedPoint correctedPoint pointInRange pointsAgree pointChange settledAgain awaitingAt acceptedAt openedSession closedSession countsHold samePoint settledHolds estimateBegins awaitingHolds holds settled awaiting reportedMotion reportedPoint reportedChange noPoint noChange exactPoint axisSamples openedWith openRefusal full predictRefusal agrees largestChange isLast correctRefusal openOf predictOf correctOf placesHold lessBefore cut earlierPosition earlierVelocity hasCentre nextSums backSums runOn runBack newestSums earlierMotion centreSums startedAxis heldRound sumsZero olderZero epochHolds axisStarts axesStart startHolds starting startingAxis startingSession openedRound roundOf earlierPoint everyBelow largestBelow roundInRange roundsAgree largestMove pointsFrom roundPoints noPoints givenRound startRefusal laterRound refineRefusal startOf refineOf withdrawOf withdrawRefusal
 computed =
     record {
       of-numbers = (refl, (refl, (refl, (refl, (refl, (refl, (refl, (refl, (refl, (refl, (refl, (refl, (refl, (refl, (refl, (refl, (refl, (refl, (refl, (refl, (refl, (refl, tt))))))))))))))))))))));
       of-values = (refl, (refl, (refl, (refl, (refl, (refl, (refl, (refl, (refl, (refl, (refl, (refl, (refl, (refl, (refl, (refl, (refl, (refl, (refl, (refl, (refl, (refl, tt))))))))))))))))))))));
+      of-olderSums = (refl, (refl, (refl, (refl, (refl, (refl, (refl, (refl, (refl, (refl, (refl, (refl, tt))))))))))));
       of-states = (refl, (refl, (refl, (refl, (refl, (refl, (refl, (refl, (refl, (refl, (refl, (refl, (refl, (refl, (refl, (refl, tt))))))))))))))));
       of-settings = (refl, (refl, (refl, (refl, (refl, (refl, (refl, (refl, (refl, (refl, (refl, (refl, (refl, (refl, (refl, (refl, (refl, (refl, (refl, (refl, (refl, (refl, (refl, (refl, tt))))))))))))))))))))))));
-      of-axes = (refl, (refl, (refl, (refl, (refl, (refl, (refl, (refl, (refl, (refl, (refl, (refl, (refl, (refl, (refl, (refl, (refl, (refl, (refl, (refl, (refl, (refl, (refl, tt)))))))))))))))))))))));
+      of-axes = (refl, (refl, (refl, (refl, (refl, (refl, (refl, (refl, (refl, (refl, (refl, (refl, (refl, (refl, (refl, (refl, (refl, (refl, (refl, (refl, (refl, (refl, (refl, (refl, (refl, (refl, (refl, (refl, tt))))))))))))))))))))))))))));
       of-openings = (refl, (refl, (refl, (refl, (refl, (refl, (refl, (refl, (refl, (refl, (refl, (refl, (refl, (refl, (refl, (refl, tt))))))))))))))));
       of-predictions = (refl, (refl, (refl, (refl, tt))));
       of-corrections = (refl, (refl, (refl, (refl, (refl, (refl, (refl, (refl, (refl, (refl, (refl, (refl, (refl, (refl, (refl, (refl, (refl, tt)))))))))))))))));
@@ -78,10 +80,11 @@ computed =
 
 filled-hold : All filledRecords
 filled-hold =
-    all-of numbers (values ++ states ++ settings ++ axes) (computed .of-numbers)
-    (all-of values (states ++ settings ++ axes) (computed .of-values)
+    all-of numbers (values ++ olderSums ++ states ++ settings ++ axes) (computed .of-numbers)
+    (all-of values (olderSums ++ states ++ settings ++ axes) (computed .of-values)
+    (all-of olderSums (states ++ settings ++ axes) (computed .of-olderSums)
     (all-of states (settings ++ axes) (computed .of-states)
-    (all-of settings axes (computed .of-settings) (computed .of-axes))))
+    (all-of settings axes (computed .of-settings) (computed .of-axes)))))
 
 refusals-hold : All refusals
 refusals-hold =

@@ -14,18 +14,18 @@ use Rattle.worked.specs.Shown.{predict, correct, withdraw, closedTo, num
 
 -- S1 and S2, each by its whole and its part
 abbrev sums : ℤ → ℕ → ℤ → ℕ → Axis
-sums first firstPart second secondPart = axis (value first firstPart) (value second secondPart) [] 9 none
+sums first firstPart second secondPart = axis (value first firstPart) (value second secondPart) none [] 9 none
 
 -- samples, newest first, beside so many empty places
 abbrev samples : List ℤ → ℕ → Axis
-samples xs empty = axis (value (pos 0) 0) (value (pos 0) 0) xs empty none
+samples xs empty = axis (value (pos 0) 0) (value (pos 0) 0) none xs empty none
 
 abbrev estimate : Motion → Axis
-estimate m = axis (value (pos 0) 0) (value (pos 0) 0) [] 9 m
+estimate m = axis (value (pos 0) 0) (value (pos 0) 0) none [] 9 m
 
 -- S1 16, S2 1015 and a sample of 12, with an estimate
 abbrev stepping : Motion → Axis
-stepping m = axis (value (pos 16) 0) (value (pos 1015) 0) (pos 12 ∷ []) 8 m
+stepping m = axis (value (pos 16) 0) (value (pos 1015) 0) none (pos 12 ∷ []) 8 m
 
 -- settled, by p, the two tolerances, the limit, the accepted points and the corrections
 abbrev settled : ℕ → ℕ → ℕ → ℕ → ℕ → ℕ → Session
@@ -103,6 +103,43 @@ values =
     -- empty places: the first and the last of one point's eight
     ∷ closedTo predict (settledAt (samples (pos 0 ∷ pos 1 ∷ []) 7) calm calm)
     ∷ closedTo predict (settledAt calm calm (samples (pos 0 ∷ pos 0 ∷ pos 0 ∷ pos 0 ∷ pos 0 ∷ pos 0 ∷ pos 0 ∷ pos 0 ∷ minus 1 ∷ []) 0))
+    ∷ []
+
+-- ---- the held sums: what the older samples give to the next corrected point
+
+-- the samples 19, 14 and 12, newest first, with a held position and velocity, each by its whole and its part
+abbrev holding : ℤ → ℕ → ℤ → ℕ → Axis
+holding position part velocity vpart = axis (value (pos 0) 0) (value (pos 0) 0) (motion position part velocity vpart) (pos 19 ∷ pos 14 ∷ pos 12 ∷ []) 6 none
+
+-- the true ones: 1330560 · 19 - 665280 · 14 and 26611200 · 19 - 6652800 · 14 over D
+abbrev right : Axis
+right = holding (pos 0) 15966720 (pos 2) 93139200
+
+-- three points
+abbrev settledThree : Axis → Axis → Axis → Session
+settledThree x y z = filled Settled 3 (tolerances 1 2) 3 4 0 x y z
+
+abbrev awaitingThree : Axis → Axis → Axis → Session
+awaitingThree x y z = filled Awaiting 3 (tolerances 1 2) 3 4 1 x y z
+
+abbrev pub olderSums : List Line
+olderSums =
+    numbered predict 0 (settledThree right right right)
+    ∷ numbered withdraw 0 (awaitingThree right right right)
+    -- off by one remainder
+    ∷ closedTo predict (settledThree (holding (pos 0) 15966721 (pos 2) 93139200) right right)
+    ∷ closedTo predict (settledThree right (holding (pos 0) 15966720 (pos 2) 93139199) right)
+    ∷ closedTo predict (settledThree right right (holding (pos 0) 15966719 (pos 2) 93139200))
+    ∷ closedTo withdraw (awaitingThree right right (holding (pos 0) 15966720 (pos 2) 93139201))
+    ∷ closedTo (correct (sample (pos 0) (pos 0) (pos 0))) (awaitingThree (holding (pos 0) 15966720 (pos 2) 93139201) right right)
+    -- the same value in another form
+    ∷ closedTo predict (settledThree (holding (minus 1) 175633920 (pos 2) 93139200) right right)
+    -- position and velocity exchanged; none; and the sums of the present point, whose columns are one place off
+    ∷ closedTo predict (settledThree right (holding (pos 2) 93139200 (pos 0) 15966720) right)
+    ∷ closedTo predict (settledThree right right (holding (pos 0) 0 (pos 0) 0))
+    ∷ closedTo predict (settledThree (holding (pos 1) 91143360 (minus 11) 153014400) right right)
+    -- one point has no older samples
+    ∷ closedTo predict (settledAt calm calm (axis (value (pos 0) 0) (value (pos 0) 0) (motion (pos 0) 1 (pos 0) 0) (pos 12 ∷ []) 8 none))
     ∷ []
 
 -- ---- each state's own rules

@@ -69,11 +69,11 @@ openings =
 
 -- settled at 2^52 - 1 with velocity 1 on x, so that the next position is out of range, and so many points accepted
 abbrev leaving : ℕ → Session
-leaving accepted = filled Settled 1 (tolerances 1 2) 3 accepted 0 (axis (value (pos 1) 0) (value (pos 4503599627370496) 0) [] 9 none) calm calm
+leaving accepted = filled Settled 1 (tolerances 1 2) 3 accepted 0 (axis (value (pos 1) 0) (value (pos 4503599627370496) 0) none [] 9 none) calm calm
 
 -- velocity 2^40 - 1 on z, which a sample of 2 would take out of range
 abbrev turning : Session
-turning = filled Settled 1 (tolerances 1 2) 3 5 0 calm calm (axis (value (pos 1099511627776) 0) (value (pos 0) 0) (pos 2 ∷ []) 8 none)
+turning = filled Settled 1 (tolerances 1 2) 3 5 0 calm calm (axis (value (pos 1099511627776) 0) (value (pos 0) 0) none (pos 2 ∷ []) 8 none)
 
 abbrev pub predictions : List Line
 predictions =
@@ -90,9 +90,9 @@ predictions =
 abbrev estimated : ℕ → ℕ → ℕ → ℕ → Session
 estimated parts position velocity corrections =
     filled Awaiting 1 (tolerances position velocity) 8 5 corrections
-    (axis (value (pos 0) 0) (value (pos 0) 0) [] 9 (motion (pos 1) parts (pos 0) 0))
+    (axis (value (pos 0) 0) (value (pos 0) 0) none [] 9 (motion (pos 1) parts (pos 0) 0))
     calm
-    (axis (value (pos 0) 0) (value (pos 0) 0) [] 9 (motion (pos 0) 0 (pos 3) parts))
+    (axis (value (pos 0) 0) (value (pos 0) 0) none [] 9 (motion (pos 0) 0 (pos 3) parts))
 
 -- the same, settled at the point before, and at the next one
 abbrev settledWith : ℕ → ℕ → ℕ → Session
@@ -100,7 +100,7 @@ settledWith position velocity accepted = filled Settled 1 (tolerances position v
 
 -- at its last correction, with the highest position on y
 abbrev high : Session
-high = filled Awaiting 1 (tolerances 0 0) 8 5 7 calm (axis (value (pos 0) 0) (value (pos 4503599627370495) 0) [] 9 none) calm
+high = filled Awaiting 1 (tolerances 0 0) 8 5 7 calm (axis (value (pos 0) 0) (value (pos 4503599627370495) 0) none [] 9 none) calm
 
 abbrev still : Sample
 still = sample (pos 0) (pos 0) (pos 0)
@@ -175,7 +175,7 @@ abbrev between : ℕ → Session
 between rounds =
     filled Starting 3 (tolerances 0 0) 8 0 rounds
     calm
-    (axis (value (pos 0) 0) (value (pos 0) 0) [] 9 (motion (pos 4503599627370494) 0 (pos 1) 0))
+    (axis (value (pos 0) 0) (value (pos 0) 0) none [] 9 (motion (pos 4503599627370494) 0 (pos 1) 0))
     calm
 
 abbrev refines : Session → List Float → ℕ → Line

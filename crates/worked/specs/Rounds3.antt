@@ -28,22 +28,23 @@ epoch =
 abbrev pub between : ℕ → Round → Session
 between rounds held =
     filled Starting 3 (tolerances 2 3) 4 0 rounds
-    (axis (value (pos 0) 0) (value (pos 0) 0) (held .x .samples) 0 (motion (minus 1004) 0 (pos 11) 0))
-    (axis (value (pos 0) 0) (value (pos 0) 0) (held .y .samples) 0 (motion (pos 2005) 0 (minus 22) 0))
-    (axis (value (pos 0) 0) (value (pos 0) 0) (held .z .samples) 0 (motion (pos 3006) 0 (pos 33) 0))
+    (axis (value (pos 0) 0) (value (pos 0) 0) none (held .x .samples) 0 (motion (minus 1004) 0 (pos 11) 0))
+    (axis (value (pos 0) 0) (value (pos 0) 0) none (held .y .samples) 0 (motion (pos 2005) 0 (minus 22) 0))
+    (axis (value (pos 0) 0) (value (pos 0) 0) none (held .z .samples) 0 (motion (pos 3006) 0 (pos 33) 0))
 
 -- at the newest point
 abbrev pub opens : Round → Session
 opens held =
     filled Settled 3 (tolerances 2 3) 4 0 0 (held .x) (held .y) (held .z)
 
--- of each axis S1 and S2 at the newest point, as the epoch fixes them, and its samples
+-- of each axis S1 and S2 at the newest point, as the epoch fixes them, what its older samples give, and its samples
 abbrev pub first : Round
 first =
     round 3
-    (axis (value (pos 41) 126403200) (value (minus 944) 28607040) (pos 22 ∷ pos 17 ∷ pos 15 ∷ []) 6 none)
-    (axis (value (minus 69) 19958400) (value (pos 1904) 16632000) (minus 35 ∷ minus 23 ∷ minus 26 ∷ []) 6 none)
-    (axis (value (pos 93) 73180800) (value (pos 3147) 147026880) (pos 42 ∷ pos 36 ∷ pos 31 ∷ []) 6 none)
+    (axis (value (pos 41) 126403200) (value (minus 944) 28607040) (motion (pos 0) 17962560 (pos 2) 153014400) (pos 22 ∷ pos 17 ∷ pos 15 ∷ []) 6 none)
+    (axis (value (minus 69) 19958400) (value (pos 1904) 16632000) (motion (minus 1) 128399040 (minus 5) 19958400) (minus 35 ∷ minus 23 ∷ minus 26 ∷ [])
+    6 none)
+    (axis (value (pos 93) 73180800) (value (pos 3147) 147026880) (motion (pos 0) 31933440 (pos 5) 79833600) (pos 42 ∷ pos 36 ∷ pos 31 ∷ []) 6 none)
 
 -- the points, the oldest first
 abbrev pub firstTrack : List Point
@@ -64,9 +65,10 @@ secondFloats =
 abbrev pub second : Round
 second =
     round 3
-    (axis (value (pos 43) 46569600) (value (minus 942) 15301440) (pos 23 ∷ pos 18 ∷ pos 16 ∷ []) 6 none)
-    (axis (value (minus 72) 106444800) (value (pos 1901) 41247360) (minus 37 ∷ minus 24 ∷ minus 29 ∷ []) 6 none)
-    (axis (value (pos 108) 6652800) (value (pos 3167) 23284800) (pos 51 ∷ pos 47 ∷ pos 38 ∷ []) 6 none)
+    (axis (value (pos 43) 46569600) (value (minus 942) 15301440) (motion (pos 0) 18627840 (pos 3) 13305600) (pos 23 ∷ pos 18 ∷ pos 16 ∷ []) 6 none)
+    (axis (value (minus 72) 106444800) (value (pos 1901) 41247360) (motion (minus 1) 126403200 (minus 6) 133056000) (minus 37 ∷ minus 24 ∷ minus 29 ∷ [])
+    6 none)
+    (axis (value (pos 108) 6652800) (value (pos 3167) 23284800) (motion (pos 0) 36590400 (pos 6) 86486400) (pos 51 ∷ pos 47 ∷ pos 38 ∷ []) 6 none)
 
 abbrev pub secondTrack : List Point
 secondTrack =
@@ -86,9 +88,10 @@ thirdFloats =
 abbrev pub third : Round
 third =
     round 3
-    (axis (value (pos 42) 46569600) (value (minus 943) 143035200) (pos 21 ∷ pos 20 ∷ pos 14 ∷ []) 6 none)
-    (axis (value (minus 72) 26611200) (value (pos 1899) 86486400) (minus 36 ∷ minus 27 ∷ minus 28 ∷ []) 6 none)
-    (axis (value (pos 109) 93139200) (value (pos 3168) 53222400) (pos 53 ∷ pos 46 ∷ pos 39 ∷ []) 6 none)
+    (axis (value (pos 42) 46569600) (value (minus 943) 143035200) (motion (pos 0) 14636160 (pos 2) 106444800) (pos 21 ∷ pos 20 ∷ pos 14 ∷ []) 6 none)
+    (axis (value (minus 72) 26611200) (value (pos 1899) 86486400) (motion (minus 1) 129729600 (minus 5) 19958400) (minus 36 ∷ minus 27 ∷ minus 28 ∷ [])
+    6 none)
+    (axis (value (pos 109) 93139200) (value (pos 3168) 53222400) (motion (pos 0) 39916800 (pos 6) 146361600) (pos 53 ∷ pos 46 ∷ pos 39 ∷ []) 6 none)
 
 abbrev pub thirdTrack : List Point
 thirdTrack =

@@ -34,24 +34,24 @@ epoch =
 abbrev pub between : ℕ → Round → Session
 between rounds held =
     filled Starting 9 (tolerances 5 6) 7 0 rounds
-    (axis (value (pos 0) 0) (value (pos 0) 0) (held .x .samples) 0 (motion (minus 7005) 0 (pos 64) 0))
-    (axis (value (pos 0) 0) (value (pos 0) 0) (held .y .samples) 0 (motion (pos 8006) 0 (minus 75) 0))
-    (axis (value (pos 0) 0) (value (pos 0) 0) (held .z .samples) 0 (motion (pos 9007) 0 (pos 86) 0))
+    (axis (value (pos 0) 0) (value (pos 0) 0) none (held .x .samples) 0 (motion (minus 7005) 0 (pos 64) 0))
+    (axis (value (pos 0) 0) (value (pos 0) 0) none (held .y .samples) 0 (motion (pos 8006) 0 (minus 75) 0))
+    (axis (value (pos 0) 0) (value (pos 0) 0) none (held .z .samples) 0 (motion (pos 9007) 0 (pos 86) 0))
 
 -- at the newest point
 abbrev pub opens : Round → Session
 opens held =
     filled Settled 9 (tolerances 5 6) 7 0 0 (held .x) (held .y) (held .z)
 
--- of each axis S1 and S2 at the newest point, as the epoch fixes them, and its samples
+-- of each axis S1 and S2 at the newest point, as the epoch fixes them, what its older samples give, and its samples
 abbrev pub first : Round
 first =
     round 9
-    (axis (value (pos 642) 156594658) (value (minus 5123) 25471039)
+    (axis (value (pos 642) 156594658) (value (minus 5123) 25471039) (motion (pos 3) 30529934 (pos 29) 158047824)
     (pos 137 ∷ pos 132 ∷ pos 128 ∷ pos 123 ∷ pos 117 ∷ pos 112 ∷ pos 108 ∷ pos 104 ∷ pos 102 ∷ []) 0 none)
-    (axis (value (minus 843) 150181966) (value (pos 5473) 150719103)
+    (axis (value (minus 843) 150181966) (value (pos 5473) 150719103) (motion (minus 4) 94629306 (minus 34) 52621140)
     (minus 162 ∷ minus 165 ∷ minus 171 ∷ minus 178 ∷ minus 183 ∷ minus 189 ∷ minus 194 ∷ minus 198 ∷ minus 203 ∷ []) 0 none)
-    (axis (value (pos 1583) 158591950) (value (pos 13529) 30235799)
+    (axis (value (pos 1583) 158591950) (value (pos 13529) 30235799) (motion (pos 8) 20677548 (pos 75) 76648)
     (pos 342 ∷ pos 338 ∷ pos 332 ∷ pos 325 ∷ pos 321 ∷ pos 314 ∷ pos 312 ∷ pos 306 ∷ pos 301 ∷ []) 0 none)
 
 -- the points, the oldest first
@@ -93,11 +93,11 @@ secondFloats =
 abbrev pub second : Round
 second =
     round 9
-    (axis (value (pos 655) 451484) (value (minus 5093) 19339336)
+    (axis (value (pos 655) 451484) (value (minus 5093) 19339336) (motion (pos 2) 88095478 (pos 27) 151783192)
     (pos 141 ∷ pos 135 ∷ pos 129 ∷ pos 126 ∷ pos 119 ∷ pos 115 ∷ pos 110 ∷ pos 106 ∷ pos 105 ∷ []) 0 none)
-    (axis (value (minus 845) 58896926) (value (pos 5463) 34226885)
+    (axis (value (minus 845) 58896926) (value (pos 5463) 34226885) (motion (minus 5) 153864903 (minus 36) 98190466)
     (minus 159 ∷ minus 168 ∷ minus 174 ∷ minus 177 ∷ minus 184 ∷ minus 187 ∷ minus 197 ∷ minus 201 ∷ minus 206 ∷ []) 0 none)
-    (axis (value (pos 1592) 7137966) (value (pos 13554) 45461945)
+    (axis (value (pos 1592) 7137966) (value (pos 13554) 45461945) (motion (pos 9) 28533543 (pos 80) 5834026)
     (pos 345 ∷ pos 336 ∷ pos 335 ∷ pos 328 ∷ pos 323 ∷ pos 316 ∷ pos 315 ∷ pos 309 ∷ pos 304 ∷ []) 0 none)
 
 abbrev pub secondTrack : List Point
@@ -138,11 +138,11 @@ thirdFloats =
 abbrev pub third : Round
 third =
     round 9
-    (axis (value (pos 653) 80394952) (value (minus 5095) 81068666)
+    (axis (value (pos 653) 80394952) (value (minus 5095) 81068666) (motion (pos 3) 86505441 (pos 31) 128733286)
     (pos 140 ∷ pos 134 ∷ pos 130 ∷ pos 125 ∷ pos 120 ∷ pos 114 ∷ pos 111 ∷ pos 105 ∷ pos 106 ∷ []) 0 none)
-    (axis (value (minus 847) 138840394) (value (pos 5461) 95956215)
+    (axis (value (minus 847) 138840394) (value (pos 5461) 95956215) (motion (minus 4) 152274866 (minus 32) 75140560)
     (minus 160 ∷ minus 169 ∷ minus 173 ∷ minus 178 ∷ minus 183 ∷ minus 188 ∷ minus 196 ∷ minus 202 ∷ minus 205 ∷ []) 0 none)
-    (axis (value (pos 1593) 86861698) (value (pos 13555) 143399815)
+    (axis (value (pos 1593) 86861698) (value (pos 13555) 143399815) (motion (pos 8) 30123580 (pos 76) 28883932)
     (pos 346 ∷ pos 337 ∷ pos 334 ∷ pos 329 ∷ pos 322 ∷ pos 317 ∷ pos 314 ∷ pos 310 ∷ pos 303 ∷ []) 0 none)
 
 abbrev pub thirdTrack : List Point

@@ -66,9 +66,10 @@ tolerances position velocity = record { position = position; velocity = velocity
 
 -- ---- records
 
--- S1 and S2, the used samples, newest first, beside so many empty places, and the estimate
-abbrev pub axis : Exact → Exact → List ℤ → ℕ → Motion → Axis
-axis first second samples empty estimate = record { first = first; second = second; samples = samples ++ replicate empty (pos 0); estimate = estimate }
+-- S1 and S2, what the older samples give, the used samples, newest first, beside so many empty places, and the estimate
+abbrev pub axis : Exact → Exact → Motion → List ℤ → ℕ → Motion → Axis
+axis first second older samples empty estimate =
+    record { first = first; second = second; older = older; samples = samples ++ replicate empty (pos 0); estimate = estimate }
 
 -- state, p, the tolerances, limit, accepted points, corrections and the three axes
 abbrev pub filled : State → ℕ → Tolerances → ℕ → ℕ → ℕ → Axis → Axis → Axis → Session
@@ -90,7 +91,7 @@ abbrev pub round : ℕ → Axis → Axis → Axis → Round
 round points x y z = record { points = points; x = x; y = y; z = z }
 
 abbrev pub calm : Axis
-calm = axis (value (pos 0) 0) (value (pos 0) 0) [] 9 none
+calm = axis (value (pos 0) 0) (value (pos 0) 0) none [] 9 none
 
 -- closed, and zero in every field
 abbrev pub closed : Session

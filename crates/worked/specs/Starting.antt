@@ -15,15 +15,19 @@ use Rattle.worked.specs.Shown.{Call, predict, correct, withdraw, refine,
 -- ---- what is wrong stands on one axis; the others are calm
 
 abbrev sums : ℤ → ℕ → ℤ → ℕ → Axis
-sums first firstPart second secondPart = axis (value first firstPart) (value second secondPart) [] 9 none
+sums first firstPart second secondPart = axis (value first firstPart) (value second secondPart) none [] 9 none
 
 -- three samples, newest first, beside six empty places
 abbrev samples : ℤ → ℤ → ℤ → Axis
-samples a b c = axis (value (pos 0) 0) (value (pos 0) 0) (a ∷ b ∷ c ∷ []) 6 none
+samples a b c = axis (value (pos 0) 0) (value (pos 0) 0) none (a ∷ b ∷ c ∷ []) 6 none
+
+-- a held position and velocity, and the samples 19, 14 and 12
+abbrev holding : Motion → Axis
+holding m = axis (value (pos 0) 0) (value (pos 0) 0) m (pos 19 ∷ pos 14 ∷ pos 12 ∷ []) 6 none
 
 -- the epoch's position and velocity, and three samples of n
 abbrev epoch : Motion → ℤ → Axis
-epoch m n = axis (value (pos 0) 0) (value (pos 0) 0) (n ∷ n ∷ n ∷ []) 6 m
+epoch m n = axis (value (pos 0) 0) (value (pos 0) 0) none (n ∷ n ∷ n ∷ []) 6 m
 
 -- by p, the two tolerances, the limit, the accepted points and the later rounds
 abbrev between : ℕ → ℕ → ℕ → ℕ → ℕ → ℕ → Session
@@ -81,12 +85,18 @@ axes =
     ∷ closedTo (later 3) (betweenAt calm (sums (pos 0) 1 (pos 0) 0) calm)
     ∷ closedTo (later 3) (betweenAt calm calm (sums (pos 0) 0 (minus 1) 0))
     ∷ closedTo (later 3) (betweenAt (sums (pos 0) 0 (pos 0) 1) calm calm)
+    -- the held sums are zero, also where others are what the samples give
+    ∷ closedTo (later 3) (betweenAt (holding (motion (pos 0) 1 (pos 0) 0)) calm calm)
+    ∷ closedTo (later 3) (betweenAt calm (holding (motion (pos 0) 0 (minus 1) 0)) calm)
+    ∷ closedTo (later 3) (betweenAt calm calm (holding (motion (pos 0) 0 (pos 0) 1)))
+    ∷ numbered (later 3) 0 (betweenAt calm calm (holding none))
+    ∷ closedTo (later 3) (betweenAt calm calm (holding (motion (pos 0) 15966720 (pos 2) 93139200)))
     -- samples, and empty places
     ∷ numbered (later 3) 0 (betweenAt (samples (pos 268435456) (minus 268435456) (pos 1)) calm calm)
     ∷ closedTo (later 3) (betweenAt calm (samples (pos 268435457) (pos 0) (pos 0)) calm)
     ∷ closedTo (later 3) (betweenAt calm calm (samples (pos 0) (pos 0) (minus 268435457)))
-    ∷ closedTo (later 3) (betweenAt (axis (value (pos 0) 0) (value (pos 0) 0) (pos 0 ∷ pos 0 ∷ pos 0 ∷ pos 1 ∷ []) 5 none) calm calm)
-    ∷ closedTo (later 3) (betweenAt calm calm (axis (value (pos 0) 0) (value (pos 0) 0) (replicate 8 (pos 0) ++ minus 1 ∷ []) 0 none))
+    ∷ closedTo (later 3) (betweenAt (axis (value (pos 0) 0) (value (pos 0) 0) none (pos 0 ∷ pos 0 ∷ pos 0 ∷ pos 1 ∷ []) 5 none) calm calm)
+    ∷ closedTo (later 3) (betweenAt calm calm (axis (value (pos 0) 0) (value (pos 0) 0) none (replicate 8 (pos 0) ++ minus 1 ∷ []) 0 none))
     -- the epoch is whole
     ∷ closedTo (later 3) (betweenAt calm (epoch (motion (pos 7) 1 (pos 8) 0) (pos 0)) calm)
     ∷ closedTo (later 3) (betweenAt calm calm (epoch (motion (pos 7) 0 (pos 8) 1) (pos 0)))

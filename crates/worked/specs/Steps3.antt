@@ -23,13 +23,14 @@ given =
     ∷ pos 19 ∷ minus 31 ∷ pos 44
     ∷ []))
 
--- of each axis S1 and S2, its samples, newest first, and its estimate
+-- of each axis S1 and S2, what its older samples give, its samples, newest first, and its estimate
 abbrev pub standing : State → ℕ → Point → Session
 standing state corrections estimate =
     filled state 3 (tolerances 3 4) 5 0 corrections
-    (axis (value (pos 20) 6652800) (value (pos 1018) 75176640) (pos 19 ∷ pos 14 ∷ pos 12 ∷ []) 6 (estimate .x))
-    (axis (value (minus 38) 39916800) (value (minus 2036) 125072640) (minus 31 ∷ minus 22 ∷ minus 25 ∷ []) 6 (estimate .y))
-    (axis (value (pos 57) 33264000) (value (pos 3056) 85821120) (pos 44 ∷ pos 41 ∷ pos 37 ∷ []) 6 (estimate .z))
+    (axis (value (pos 20) 6652800) (value (pos 1018) 75176640) (motion (pos 0) 15966720 (pos 2) 93139200) (pos 19 ∷ pos 14 ∷ pos 12 ∷ []) 6 (estimate .x))
+    (axis (value (minus 38) 39916800) (value (minus 2036) 125072640) (motion (minus 1) 133056000 (minus 5) 119750400) (minus 31 ∷ minus 22 ∷ minus 25 ∷ [])
+    6 (estimate .y))
+    (axis (value (pos 57) 33264000) (value (pos 3056) 85821120) (motion (pos 0) 31268160 (pos 5) 99792000) (pos 44 ∷ pos 41 ∷ pos 37 ∷ []) 6 (estimate .z))
 
 abbrev pub predicted : Point
 predicted =
@@ -61,9 +62,10 @@ accepted =
 abbrev pub settled : Session
 settled =
     filled Settled 3 (tolerances 3 4) 5 1 0
-    (axis (value (pos 50) 6652800) (value (pos 1068) 81829440) (pos 30 ∷ pos 19 ∷ pos 14 ∷ []) 6 none)
-    (axis (value (minus 77) 39916800) (value (minus 2112) 5322240) (minus 39 ∷ minus 31 ∷ minus 22 ∷ []) 6 none)
-    (axis (value (pos 109) 33264000) (value (pos 3165) 119085120) (pos 52 ∷ pos 44 ∷ pos 41 ∷ []) 6 none)
+    (axis (value (pos 50) 6652800) (value (pos 1068) 81829440) (motion (pos 0) 27276480 (pos 4) 33264000) (pos 30 ∷ pos 19 ∷ pos 14 ∷ []) 6 none)
+    (axis (value (minus 77) 39916800) (value (minus 2112) 5322240) (motion (minus 1) 128399040 (minus 6) 126403200) (minus 39 ∷ minus 31 ∷ minus 22 ∷ [])
+    6 none)
+    (axis (value (pos 109) 33264000) (value (pos 3165) 119085120) (motion (pos 0) 39916800 (pos 6) 133056000) (pos 52 ∷ pos 44 ∷ pos 41 ∷ []) 6 none)
 
 -- the prediction there
 abbrev pub following : Point

@@ -29,15 +29,15 @@ given =
     ∷ pos 138 ∷ minus 161 ∷ pos 341
     ∷ []))
 
--- of each axis S1 and S2, its samples, newest first, and its estimate
+-- of each axis S1 and S2, what its older samples give, its samples, newest first, and its estimate
 abbrev pub standing : State → ℕ → Point → Session
 standing state corrections estimate =
     filled state 9 (tolerances 3 3) 6 0 corrections
-    (axis (value (pos 4) 133241526) (value (pos 6993) 59003389)
+    (axis (value (pos 4) 133241526) (value (pos 6993) 59003389) (motion (pos 2) 102393733 (pos 28) 12459590)
     (pos 138 ∷ pos 131 ∷ pos 127 ∷ pos 124 ∷ pos 116 ∷ pos 113 ∷ pos 107 ∷ pos 103 ∷ pos 101 ∷ []) 0 (estimate .x))
-    (axis (value (minus 5) 147349774) (value (minus 7992) 46895119)
+    (axis (value (minus 5) 147349774) (value (minus 7992) 46895119) (motion (minus 3) 94459421 (minus 30) 99399498)
     (minus 161 ∷ minus 166 ∷ minus 170 ∷ minus 179 ∷ minus 182 ∷ minus 188 ∷ minus 195 ∷ minus 199 ∷ minus 202 ∷ []) 0 (estimate .y))
-    (axis (value (pos 255) 86425504) (value (pos 9231) 109764876)
+    (axis (value (pos 255) 86425504) (value (pos 9231) 109764876) (motion (pos 7) 74438451 (pos 72) 3222846)
     (pos 341 ∷ pos 339 ∷ pos 331 ∷ pos 326 ∷ pos 322 ∷ pos 313 ∷ pos 311 ∷ pos 305 ∷ pos 303 ∷ []) 0 (estimate .z))
 
 abbrev pub predicted : Point
@@ -71,11 +71,11 @@ accepted =
 abbrev pub settled : Session
 settled =
     filled Settled 9 (tolerances 3 3) 6 1 0
-    (axis (value (pos 151) 133241526) (value (pos 7145) 32577715)
+    (axis (value (pos 151) 133241526) (value (pos 7145) 32577715) (motion (pos 3) 114833955 (pos 33) 71910234)
     (pos 147 ∷ pos 138 ∷ pos 131 ∷ pos 127 ∷ pos 124 ∷ pos 116 ∷ pos 113 ∷ pos 107 ∷ pos 103 ∷ []) 0 none)
-    (axis (value (minus 159) 147349774) (value (minus 8150) 34577693)
+    (axis (value (minus 159) 147349774) (value (minus 8150) 34577693) (motion (minus 4) 7338195 (minus 35) 75953746)
     (minus 154 ∷ minus 161 ∷ minus 166 ∷ minus 170 ∷ minus 179 ∷ minus 182 ∷ minus 188 ∷ minus 195 ∷ minus 199 ∷ []) 0 none)
-    (axis (value (pos 607) 86425504) (value (pos 9839) 36523180)
+    (axis (value (pos 607) 86425504) (value (pos 9839) 36523180) (motion (pos 9) 30361215 (pos 81) 15391266)
     (pos 352 ∷ pos 341 ∷ pos 339 ∷ pos 331 ∷ pos 326 ∷ pos 322 ∷ pos 313 ∷ pos 311 ∷ pos 305 ∷ []) 0 none)
 
 -- the prediction there

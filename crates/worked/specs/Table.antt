@@ -1,7 +1,7 @@
 -- The table: every worked row.
 use mathlib.Core.List.{List, _++_}
 use Rattle.integers.specs.Lines.{Line}
-use Rattle.worked.specs.Filled.{numbers, values, states}
+use Rattle.worked.specs.Filled.{numbers, values, olderSums, states}
 use Rattle.worked.specs.Starting.{settings, axes}
 use Rattle.worked.specs.Refused.{openings, predictions, corrections, firstRounds, laterRounds}
 use Rattle.worked.specs.Steps3 as Steps3
@@ -11,7 +11,7 @@ use Rattle.worked.specs.Rounds9 as Rounds9
 
 -- records that a host filled
 abbrev pub filledRecords : List Line
-filledRecords = numbers ++ values ++ states ++ settings ++ axes
+filledRecords = numbers ++ values ++ olderSums ++ states ++ settings ++ axes
 
 -- calls that are refused
 abbrev pub refusals : List Line

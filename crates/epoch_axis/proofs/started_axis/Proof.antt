@@ -7,7 +7,7 @@ use lib.IntN.{_+ℤ_}
 use Rattle.integers.specs.Differences.{at}
 use Rattle.exact.specs.Numerator.{exactOf, numerator}
 use Rattle.exact.specs.Bounds.{widen}
-use Rattle.epoch_coefficients.proofs.Centre.{at-least-3}
+use Rattle.epoch_coefficients.proofs.Centre.{at-least-3, at-most-9}
 use Rattle.axis.specs.Formulas.{axisWith}
 use Rattle.epoch_axis.specs.Formulas.{runOn, centre, centreSums, startedAxis}
 use Rattle.epoch_axis.proofs.Started.{centre-near, centre-room, newest-room}
@@ -29,15 +29,19 @@ add-requires c κs =
     let r = newest-room (b .args .p) (b .args .epoch) (b .args .samples) (b .pre .0) (b .pre .1 .0) (b .pre .1 .1) in
     rw (sums (c .before)) (widen (2 ^ 62) (r .before) tt, widen (2 ^ 62) (r .first) tt)
 
+older-motion-requires : tie.Need-older-motion-requires
+older-motion-requires c κs = let h = c .before .before .before .before .pre in ((omega (arith, at-least-3 (h .0)), at-most-9 (h .0)), h .1 .1)
+
 returns : tie.Need-returns
 unfolding startedAxis
 returns c =
     let n = c .before in
-    let d = n .before .before .before in
+    let o = n .before in
+    let d = o .before .before .before in
     let e = sums d in
-    let second = n .before .add .ensures ∙ ap (λ s. exactOf (numerator (s .before) +ℤ numerator (s .first))) e in
-    c .axis-with .ensures ∙ (λ i. axisWith (e i .first) (second i) (d .before .before .args .samples) (n .no-motion .ensures i))
+    let second = o .before .add .ensures ∙ ap (λ s. exactOf (numerator (s .before) +ℤ numerator (s .first))) e in
+    c .axis-with .ensures ∙ (λ i. axisWith (e i .first) (second i) (o .older-motion .ensures i) (d .before .before .args .samples) (n .no-motion .ensures i))
 
 pub started-axis-spec : {M : Type 1} → statement M
 started-axis-spec =
-    tie.close (tie.spec (λ c. omega (arith, at-least-3 (c .pre .0))) (λ c κs. search needs) run-on-requires add-requires (λ c κs. tt) (λ c κs. tt) returns)
+    tie.close (tie.spec (λ c. omega (arith, at-least-3 (c .pre .0))) (λ c κs. search needs) run-on-requires add-requires older-motion-requires (λ c κs. tt) (λ c κs. tt) returns)

@@ -27,15 +27,16 @@ returns : tie.Need-returns
 unfolding openedAxis
 returns c =
     let n = c .before in
-    let d = n .before .before in
+    let o = n .before in
+    let d = o .before .before in
     let f = d .before .before in
     let b = f .before .before in
     let m = b .args .point in
     let first = left-is (m .velocity) _ (sfits-of (f .before .velocity-corrector .ok)) (f .before .velocity-corrector .ensures) (f .left-of .ensures) in
     let before = left-is (m .position) _ (sfits-of (d .before .position-corrector .ok)) (d .before .position-corrector .ensures) (d .left-of2 .ensures) in
-    let second = n .before .add .ensures ∙ ap₂ (λ y z. exactOf (y +ℤ z)) (made _ before) (made _ first) in
-    c .axis-with .ensures ∙ (λ i. axisWith (first i) (second i) (b .args .samples) (n .no-motion .ensures i))
+    let second = o .before .add .ensures ∙ ap₂ (λ y z. exactOf (y +ℤ z)) (made _ before) (made _ first) in
+    c .axis-with .ensures ∙ (λ i. axisWith (first i) (second i) (o .older-motion .ensures i) (b .args .samples) (n .no-motion .ensures i))
 
 pub opened-axis-spec : {M : Type 1} → statement M
 opened-axis-spec =
-    tie.close (tie.spec (λ c κs. search needs) left-of-requires (λ c κs. search needs) (λ c κs. search needs) add-requires (λ c κs. tt) (λ c κs. tt) returns)
+    tie.close (tie.spec (λ c κs. search needs) left-of-requires (λ c κs. search needs) (λ c κs. search needs) add-requires (λ c κs. search needs) (λ c κs. tt) (λ c κs. tt) returns)

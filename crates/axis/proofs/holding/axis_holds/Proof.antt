@@ -2,8 +2,8 @@
 use mathlib.Core.Path.{sym, ap, _∙_}
 use Rattle.integers.specs.Tests.{stop, go-on, fails, failed, passed, clash}
 use Rattle.exact.specs.Bounds.{between-bounded}
-use Rattle.axis.specs.Estimates.{inRange}
-use Rattle.axis.specs.Holding.{axisHolds}
+use Rattle.axis.specs.Estimates.{sameMotion, inRange}
+use Rattle.axis.specs.Holding.{olderHolds, axisHolds}
 use Rattle.axis.proofs.Places.{small-samples}
 use Rattle.axis.proofs.Sound.{holding-axis, remainders, first-within, second-within}
 use Rattle.axis.proofs.holding.axis_holds.Statement.{statement}
@@ -58,13 +58,32 @@ returns-5 c =
 returns-6 : tie.Need-returns-6
 unfolding axisHolds
 returns-6 c =
-    let q = c .before in
+    let q = c .before .before in
     let x = q .before .before .before .before .before .before .before in
     let r = x .before .before .before in
     go-on (r .before .remainders-hold .ensures) (r .if1 .left)
     (go-on (x .before .places-hold .ensures) (x .if2 .left)
     (go-on (q .before .in-range .ensures ∙ ap inRange (q .before .before .present-motion .ensures)) (q .if5 .left)
-    (c .in-range2 .ensures)))
+    (stop _ (c .before .in-range2 .ensures) (c .if6 .taken))))
+
+older-motion-requires : tie.Need-older-motion-requires
+older-motion-requires c κs =
+    let x = c .before .before .before .before .before .before .before .before .before in
+    let b = x .before .before .before .before .before in
+    (b .pre, small-samples (b .args .p) (b .args .a .samples) (passed (x .before .places-hold .ensures) (x .if2 .left)))
+
+returns-7 : tie.Need-returns-7
+unfolding axisHolds olderHolds
+returns-7 c =
+    let e = c .before .before in
+    let q = e .before .before in
+    let x = q .before .before .before .before .before .before .before in
+    let r = x .before .before .before in
+    go-on (r .before .remainders-hold .ensures) (r .if1 .left)
+    (go-on (x .before .places-hold .ensures) (x .if2 .left)
+    (go-on (q .before .in-range .ensures ∙ ap inRange (q .before .before .present-motion .ensures)) (q .if5 .left)
+    (go-on (e .before .in-range2 .ensures) (e .if6 .left)
+    (c .same-motion .ensures ∙ ap (sameMotion (r .before .before .args .a .older)) (c .before .older-motion .ensures)))))
 
 pub axis-holds-spec : {M : Type 1} → statement M
 axis-holds-spec =
@@ -82,4 +101,7 @@ axis-holds-spec =
     (λ c κs. tt)
     returns-5
     (λ c κs. tt)
-    returns-6)
+    returns-6
+    older-motion-requires
+    (λ c κs. tt)
+    returns-7)

@@ -46,13 +46,13 @@ unfolding roundsAgree
 returns c =
     let l = c .before .before .before .before .before in
     let a = l .before .args in
-    every-fails (λ j. pointsAgree (a .tolerances) (earlierPoint (a .r) j) (earlierPoint (a .before) j)) (a .r .points) (l .loop .j) (omega arith) (failed (agree-here (c .before)) (c .if1 .taken))
+    every-fails (λ j. pointsAgree (a .tolerances) (earlierPoint (a .r) j) (earlierPoint (a .before) j)) (a .r .points) (l .loop .j) (c .before .before .before .before .loop-test .taken) (failed (agree-here (c .before)) (c .if1 .taken))
 
 loop-again : tie.Need-loop-again Inv-loop μ-loop
 loop-again c =
     let l = c .before .before .before .before .before in
     let a = l .before .args in (
-      search needs,
+      rw (add-one (l .loop .j)) (c .before .before .before .before .loop-test .taken),
       rw (add-one (l .loop .j)) (every-more (λ j. pointsAgree (a .tolerances) (earlierPoint (a .r) j) (earlierPoint (a .before) j)) (l .loop .j) (l .loop .inv .1) (passed (agree-here (c .before)) (c .if1 .left))),
     )
 

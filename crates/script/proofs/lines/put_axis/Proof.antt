@@ -13,6 +13,7 @@ put-axis-spec =
     (tie.spec
     (λ c κs. has-room (omega arith))
     (λ c κs. has-room (omega arith))
+    (λ c κs. has-room (omega arith))
     (λ c κs. (omega arith, omega arith))
     (λ c κs. has-room (omega arith))
     (λ c. search needs)
