@@ -40,21 +40,30 @@ class Script:
 
     # Calls
 
-    def call(self, line):
-        """Makes a call and takes note of what it leaves; the answer, none for fill."""
+    def send(self, line):
+        """Puts a line into the script and to the peer."""
         self.script.append(line)
         self.peer.stdin.write(line.encode() + b'\n')
         self.peer.stdin.flush()
-        self.answer = None
-        if not line.startswith('fill'):
-            text = self.peer.stdout.readline()
-            self.written.append(text)
-            self.answer = Answer(text)
-        self.record_line = self.peer.stdout.readline()
-        self.written.append(self.record_line)
+
+    def read(self):
+        """The next line that the peer writes."""
+        self.written.append(self.peer.stdout.readline())
+        return self.written[-1]
+
+    def call(self, line):
+        """Makes a call and takes note of what it leaves; the answer, none for fill."""
+        self.send(line)
+        self.answer = None if line.startswith('fill') else Answer(self.read())
+        self.record_line = self.read()
         self.state = int(self.record_line[7:8])
         self.note(line)
         return self.answer
+
+    def ask(self, floats):
+        """Asks why a correction by the sample would be answered as it would be; the record stays."""
+        self.send(why_line(floats))
+        return Reason(self.read())
 
     def note(self, line):
         if self.answer is None:

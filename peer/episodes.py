@@ -1,18 +1,20 @@
 """Draws scripts of calls from episodes, each of which leads to some corner of the rules."""
-from starts import *
+from moved import *
 from spoiling import spoilt
 
 # One script in so many steps sessions; the others end soon by a line that is no call.
 SESSION_EVERY = 8
-S = Starts
+S = Moved
 EPISODES = [S.session, S.session, S.session, S.every_number_of_points, S.floats,
             S.refused_openings, S.far_out, S.nearly_right, S.nearly_right, S.moved_to_bounds,
             S.moved_to_bounds, S.estimate_at_bounds, S.at_tolerance, S.at_tolerance,
             S.at_last_point, S.random_fills, S.every_start, S.host, S.to_the_limit,
             S.while_starting, S.later_in_every_state, S.refused_starts, S.refused_rounds,
             S.starts_headed_out, S.epochs_at_bounds, S.points_at_bounds, S.rounds_at_tolerance,
-            S.nearly_starting, S.nearly_starting, S.untrue_held, S.untrue_held,
-            S.held_while_starting, S.held_before_accepted]
+            S.nearly_starting, S.nearly_starting, S.untrue_held, S.untrue_held, S.untrue_held,
+            S.held_while_starting, S.held_before_accepted, S.first_at_tolerance,
+            S.several_over_tolerance, S.out_at_some_values, S.out_at_some_values,
+            S.several_floats_at_fault]
 
 
 def session_script(script, index):
@@ -34,16 +36,20 @@ def spoilt_script(script, index):
     """A call or two and a line that is no call."""
     rng = script.rng
     lines = [open_line(*script.opening()), correct_line(script.sample()),
-             start_line(*script.centred()), refine_line(script.sample() * 3),
+             start_line(*script.centred()), refine_line(script.sample() * 3), why_line(script.sample()),
              fill_line(script.random_record(rng.choice((SETTLED, AWAITING, STARTING))))]
     for _ in range(rng.randrange(3)):
-        script.call(rng.choice(('predict', 'withdraw', *lines)))
+        line = rng.choice(('predict', 'withdraw', *lines))
+        if line.startswith('why'):
+            script.ask(line.split()[1:])
+        else:
+            script.call(line)
     return script.end(spoilt(lines, index, rng))
 
 
 def draw(peer, seed, index):
     """The script of that index, what the peer writes for it, and what the script has met."""
-    script = Starts(peer, f'{seed}/{index}')
+    script = Moved(peer, f'{seed}/{index}')
     turn, kind = divmod(index, SESSION_EVERY)
     if kind == 0:
         return session_script(script, turn)

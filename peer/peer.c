@@ -4,6 +4,7 @@
  *   predict
  *   correct F F F
  *   withdraw
+ *   why F F F
  *   start POINTS TOLERANCES LIMIT X Y Z VX VY VZ F F ..   as open
  *   refine F F ..                                         0 to 64 floats
  *   fill STATE POINTS TOLERANCES LIMIT ACCEPTED CORRECTIONS, then for each axis
@@ -22,11 +23,12 @@
  * NUMBER and KIND, then
  *   of a round: the changes, then nine points, oldest first, each x, vx, y, vy, z, vz
  *   of another call: the point x, vx, y, vy, z, vz, then the changes
- * where the changes are two values, the largest of position and the largest of velocity. */
+ * where the changes are two values, the largest of position and the largest of velocity, and
+ *   of why: VALUE, its change, its TOLERANCE, GIVEN and a difference for each axis
+ * Behind each answer but that of why the record is written. */
 #include "rules.h"
 
 #include <inttypes.h>
-#include <stdbool.h>
 #include <stdio.h>
 #include <string.h>
 #include <unistd.h>
@@ -113,6 +115,12 @@ static size_t float_words(struct text *t, double floats[FLOATS_MOST])
     return length;
 }
 
+static void sample_words(struct text *t, double sample[AXES])
+{
+    for (int i = 0; i < AXES; i++)
+        sample[i] = float_word(t);
+}
+
 static struct tolerances tolerance_words(struct text *t)
 {
     uint64_t position = unsigned_word(t, UINT64_MAX);
@@ -191,6 +199,16 @@ static void write_round(const char *call, struct round_answer a)
     putchar('\n');
 }
 
+static void write_reason(struct reason a)
+{
+    printf("why %d %d %d", a.number, (int)a.kind, a.value);
+    write_value(a.change);
+    printf(" %" PRIu64 " %d", a.tolerance, a.given);
+    for (int i = 0; i < AXES; i++)
+        printf(" %" PRId64, a.differences[i]);
+    putchar('\n');
+}
+
 static void write_record(const struct record *r)
 {
     const uint64_t numbers[] = {r->state, r->points, r->tolerances.position, r->tolerances.velocity,
@@ -235,8 +253,7 @@ static bool do_predict(struct record *r, struct text *t)
 static bool do_correct(struct record *r, struct text *t)
 {
     double sample[AXES];
-    for (int i = 0; i < AXES; i++)
-        sample[i] = float_word(t);
+    sample_words(t, sample);
     if (!read_whole(t))
         return false;
     write_answer("correct", correct(r, sample));
@@ -248,6 +265,16 @@ static bool do_withdraw(struct record *r, struct text *t)
     if (!read_whole(t))
         return false;
     write_answer("withdraw", withdraw(r));
+    return true;
+}
+
+static bool do_why(const struct record *r, struct text *t)
+{
+    double sample[AXES];
+    sample_words(t, sample);
+    if (!read_whole(t))
+        return false;
+    write_reason(why(r, sample));
     return true;
 }
 
@@ -300,6 +327,8 @@ static bool do_fill(struct record *r, struct text *t)
 static bool do_line(struct record *r, struct text t)
 {
     bool done = false;
+    if (next_is(&t, "why"))
+        return do_why(r, &t);
     if (next_is(&t, "open"))
         done = do_open(r, &t);
     else if (next_is(&t, "predict"))

@@ -10,7 +10,7 @@ HERE = pathlib.Path(__file__).resolve().parent
 TOP = HERE.parent
 OUT = TOP / 'target' / 'peer'
 REPLAY = TOP / 'target' / 'bin' / 'replay'
-SOURCES = ('rules.h', 'shared.h', 'rules.c', 'rounds.c', 'peer.c')
+SOURCES = ('rules.h', 'shared.h', 'rules.c', 'rounds.c', 'reasons.c', 'peer.c')
 
 PARTS = 159667200
 AXES = range(3)
@@ -88,6 +88,11 @@ def correct_line(floats):
     return ' '.join(['correct', *floats])
 
 
+def why_line(floats):
+    """A line that asks why a correction would be answered as it would be."""
+    return ' '.join(['why', *floats])
+
+
 def refine_line(floats):
     """A line of a later round."""
     return ' '.join(['refine', *floats])
@@ -105,6 +110,12 @@ def record_fields(line):
 def axis_at(axis, what):
     """Where a number of an axis stands in a record."""
     return FIRST_AXIS + AXIS_LENGTH * axis + what
+
+
+def estimate(record):
+    """The values of the estimate in the fields of a record, x, vx, y, vy, z, vz, in parts."""
+    places = [axis_at(axis, what) for axis in AXES for what in (POSITION, VELOCITY)]
+    return [record[at] * PARTS + record[at + 1] for at in places]
 
 
 ROUNDS = ('start', 'refine')
@@ -133,3 +144,14 @@ class Answer:
     def changes(self):
         """The largest change of position and that of velocity."""
         return self.values[:2] if self.call in ROUNDS else self.values[-2:]
+
+
+class Reason:
+    """An answer to `why`: number, kind, the value named, its change in parts, its tolerance, the differences if given."""
+
+    def __init__(self, line):
+        words = line.decode().split()
+        (self.number, self.kind, self.value, whole, part), self.report = map(int, words[1:6]), words[6]
+        self.change = whole * PARTS + part
+        self.tolerance, given, *differences = map(int, words[7:])
+        self.differences = differences if given else None

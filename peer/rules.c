@@ -438,8 +438,7 @@ static void accept(struct record *r, const int64_t ticks[AXES])
     settle(r);
 }
 
-/* The corrected point of an axis for the sample after the sums' point. */
-static struct motion corrected_with(struct axis a, uint64_t points, int64_t tick)
+struct motion corrected_with(struct axis a, uint64_t points, int64_t tick)
 {
     push(a.samples, points, tick);
     return corrected(parts(a.second_sum), parts(a.first_sum) + (wide)tick * PARTS,

@@ -2,6 +2,7 @@
 #ifndef RULES_H
 #define RULES_H
 
+#include <stdbool.h>
 #include <stddef.h>
 #include <stdint.h>
 
@@ -62,6 +63,17 @@ struct round_answer {
     struct motion points[PLACES][AXES];
 };
 
+/* Why a correction would be answered as it would be; what it does not name is zero. */
+struct reason {
+    int number;
+    enum kind kind;
+    int value; /* 1 to 6: position x, y, z, velocity x, y, z; or of the sample 1 to 3: x, y, z */
+    wide change; /* of the value named, from the last estimate, with its sign */
+    uint64_t tolerance;
+    bool given; /* whether the differences are: those of order p at the sample */
+    int64_t differences[AXES];
+};
+
 /* What open and a first round are given; samples oldest point first. */
 struct opening {
     uint64_t points;
@@ -79,6 +91,9 @@ struct answer open_session(struct record *r, const struct opening *given);
 struct answer predict(struct record *r);
 struct answer correct(struct record *r, const double sample[AXES]);
 struct answer withdraw(struct record *r);
+
+/* The reason of what correct would answer. */
+struct reason why(const struct record *r, const double sample[AXES]);
 
 /* The rounds of a start: the given point is the centre one, later samples come as in the first. */
 struct round_answer first_round(struct record *r, const struct opening *given);

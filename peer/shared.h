@@ -1,10 +1,8 @@
-/* What the rounds use of the rules. */
+/* What the rounds and the reasons use of the rules. */
 #ifndef SHARED_H
 #define SHARED_H
 
 #include "rules.h"
-
-#include <stdbool.h>
 
 /* c(i) and l(i) times D, at their index. */
 extern int64_t adams_corrector[PLACES + 1], cowell_corrector[PLACES + 2];
@@ -26,6 +24,9 @@ void differences(const int64_t *samples, uint64_t points, int64_t *result);
 
 /* The sum of coefficient times difference, from the given coefficient on and from order 0 on. */
 wide series(const int64_t *coefficients, const int64_t *differences, uint64_t points);
+
+/* The corrected point of an axis for the sample after the sums' point. */
+struct motion corrected_with(struct axis a, uint64_t points, int64_t tick);
 
 struct motion estimate(const struct axis *a);
 void set_estimate(struct axis *a, struct motion m);

@@ -2,6 +2,7 @@
 import collections
 
 from program import *
+from reasons import ASKED, STATES, count
 
 # The numbers that each call can answer.
 NUMBERS = {'open': (0, 1, 2, 3, 4, 5, 6), 'predict': (0, 6, 7, 9),
@@ -14,7 +15,6 @@ KINDS_OF = {'correct': ('accepted', 'again'), 'start': ('again',), 'refine': ('a
 SIZES = {'open': range(1, 10), 'start': (3, 5, 7, 9), 'refine': (3, 5, 7, 9)}
 # The calls that do not fit every state, and the states of the records that they refuse.
 FITTING = [call for call, numbers in NUMBERS.items() if 7 in numbers]
-STATES = ('closed', 'settled', 'awaiting', 'starting')
 NO_CALL = 'not a call'
 # The values that an estimate has, in its order, and the calls that ask for another if one has moved too far.
 VALUES = ('x', 'vx', 'y', 'vy', 'z', 'vz')
@@ -26,12 +26,6 @@ UNTRUE = (*VALUES, 'not normal', 'exchanged', 'samples one off', 'columns one of
           'with S1', 'zero', 'before the accepted point')
 HELD_FAULTS = {'predict': UNTRUE, 'correct': UNTRUE, 'withdraw': UNTRUE,
                'refine': (*VALUES, 'of the samples')}
-
-
-def estimate(record):
-    """The values of the estimate in the fields of a record, in parts."""
-    places = [axis_at(axis, what) for axis in AXES for what in (POSITION, VELOCITY)]
-    return [record[at] * PARTS + record[at + 1] for at in places]
 
 
 def over_tolerance(before, after, tolerances):
@@ -69,6 +63,8 @@ def tally(written):
         head = words[0].decode()
         if head == 'line':
             met[NO_CALL] += 1
+        elif head == ASKED:
+            count(met, Reason(line), causes.record)
         elif head == 'record':
             causes.record = record_fields(line)
             if call is None:
@@ -92,7 +88,7 @@ def tally(written):
 
 
 def calls(met):
-    return sum(met[call] for call in (*NUMBERS, 'fill'))
+    return sum(met[call] for call in (*NUMBERS, 'fill', ASKED))
 
 
 def print_table(met):
@@ -101,6 +97,7 @@ def print_table(met):
         print(f'{call:10}{met[call]:>9}' + ''.join(
             f'{met[call, n] if n in numbers else "":>9}' for n in range(11)).rstrip())
     print(f'{"fill":10}{met["fill"]:>9}')
+    print(f'{ASKED:10}{met[ASKED]:>9}')
     print(f'{NO_CALL:10}{met[NO_CALL]:>9}')
     for call, kinds in KINDS_OF.items():
         print(f'{call} answers: ' + ', '.join(f'{kind} {met[call, kind]}' for kind in kinds))

@@ -8,6 +8,7 @@ pub use units::position_units;
 pub use units::velocity_units;
 pub use writing::has_few_digits;
 pub use writing::put_fixed;
+pub use writing::put_last_digits;
 
 // A quotient rounded down, and what is left.
 struct Quotient {

@@ -23,7 +23,7 @@ fn power_of_ten(k: usize) -> u64
 }
 
 // The last k digits.
-fn put_last_digits(out: &mut [u8], at: usize, k: usize, n: u64) -> usize
+pub fn put_last_digits(out: &mut [u8], at: usize, k: usize, n: u64) -> usize
     requires { ⌜ at + k ≤ length (now out) ⌝ }
     ensures { λ r. ⌜ Wrote (now (out .entry)) at (lastDigits k n) (now (out .exit)) r ⌝ }
 {

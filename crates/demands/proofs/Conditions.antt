@@ -62,7 +62,7 @@ module _ (test : Rounded → Bool) (P : Float → Type 0) (h : (x : Float) → (
   any-decides : (xs : List Float) → Decides (any test xs) (Some P xs)
   any-decides xs = decides (any-to xs, any-from xs)
 
-not-finite : (x : Float) → ((isNotANumber (roundedOf x) || isInfinite (roundedOf x)) ≡ true) ↔ NotFinite x
+pub not-finite : (x : Float) → ((isNotANumber (roundedOf x) || isInfinite (roundedOf x)) ≡ true) ↔ NotFinite x
 unfolding roundedOf
 not-finite nan = ((λ e. tt), (λ p. refl))
 not-finite (inf s) = ((λ e. tt), (λ p. refl))
@@ -72,7 +72,7 @@ not-finite (fin s m e) = by (leb (closest (m * up e) (down e)) limit)
     by true = (false≢true, absurd)
     by false = (false≢true, absurd)
 
-too-large : (x : Float) → (isTooLarge (roundedOf x) ≡ true) ↔ TooLarge x
+pub too-large : (x : Float) → (isTooLarge (roundedOf x) ≡ true) ↔ TooLarge x
 unfolding roundedOf
 too-large nan = (false≢true, absurd)
 too-large (inf s) = (false≢true, absurd)

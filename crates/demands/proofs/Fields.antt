@@ -24,7 +24,7 @@ module _ (a : ℤ) where
   size-to : natAbs a ≤ 2 ^ 28 → SampleInRange a
   size-to h = (omega (integers, natAbs-parts a, one-part a), omega (integers, natAbs-parts a, one-part a))
 
-  size-from : SampleInRange a → natAbs a ≤ 2 ^ 28
+  pub size-from : SampleInRange a → natAbs a ≤ 2 ^ 28
   size-from (l, u) = omega (integers, natAbs-parts a, one-part a)
 
 pub samples-to : (xs : List ℤ) → samplesSmall xs ≡ true → (i : ℕ) → SampleInRange (at xs i)

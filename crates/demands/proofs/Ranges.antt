@@ -35,7 +35,7 @@ use Rattle.demands.specs.Records.{perTick, Between, InRange, TrackInRang
 -- ---- values: the whole part is looked at, and the remainder is less than a tick
 
 module _ (h : ℕ) (e : Exact) (p : e .part < D) where
-  value-range : Decides (between h e) (Between h (numerator e))
+  pub value-range : Decides (between h e) (Between h (numerator e))
   value-range = decides (to, from)
     where
       to : between h e ≡ true → Between h (numerator e)

@@ -17,12 +17,16 @@ use Rattle.steps.specs.declared.Answer.{Answer}
 use Rattle.steps.specs.declared.ReportedMotion.{ReportedMotion}
 use Rattle.steps.specs.declared.ReportedPoint.{ReportedPoint}
 use Rattle.epoch_steps.specs.declared.RoundValues.{RoundValues}
+use Rattle.reasons.specs.declared.Reason.{Reason}
+use Rattle.reasons.specs.declared.Differences.{Differences}
+use Rattle.reasons.specs.declared.Explanation.{Explanation}
 use Rattle.text.specs.Numbers.{ascii, digit, digits, decimal, signed, numbers, hex}
 use Rattle.text.specs.Digits.{length-hexDigits}
 use Rattle.text.specs.Places.{total}
 use Rattle.text.specs.Pieces.{length-flatten}
-use Rattle.script.specs.Lines.{natural, two, exactly, value, motionValues, pointValues, answerValues, answerLine}
+use Rattle.script.specs.Lines.{natural, two, integer, exactly, value, motionValues, pointValues, answerValues, answerLine}
 use Rattle.script.specs.Lines.{roundValues, pointText, ninePoints, roundLine}
+use Rattle.script.specs.Lines.{reasonWords, flagOf, differenceWords, whyLine}
 use Rattle.script.specs.Lines.{motionWords, axisWords, numberOf, settingsWords, axesWords, recordLine, noCallLine}
 
 -- ---- words
@@ -36,7 +40,7 @@ few-digits (suc k) n = by (ltb n 10) (few-digits k (n / 10))
     by true ih = omega arith
     by false ih = omega (arith, length-append (digits k (n / 10)) (digit (n % 10) ∷ []))
 
-decimal-short : (n : ℕ) → length (decimal n) ≤ 20
+pub decimal-short : (n : ℕ) → length (decimal n) ≤ 20
 unfolding decimal
 decimal-short n = few-digits 20 n
 
@@ -44,6 +48,10 @@ signed-short : (z : ℤ) → length (signed z) ≤ 21
 unfolding signed ascii
 signed-short (pos n) = omega (arith, decimal-short n)
 signed-short (negsuc n) = omega (arith, decimal-short (suc n))
+
+integer-short : (z : ℤ) → length (flatten (integer z)) ≤ 22
+unfolding integer ascii
+integer-short z = omega (arith, length-flatten (integer z), signed-short z)
 
 pub length-hex : (n : ℕ) → length (hex n) ≡ 16
 unfolding hex
@@ -109,6 +117,21 @@ nine-short qs = omega (arith, length-flatten (ninePoints qs), points-short 9 qs)
 pub round-short : (call : List ℕ) (a : RoundValues) → total (roundLine call a) ≤ length call + 3403
 unfolding roundLine ascii
 round-short call a = omega (arith, round-values-short (a .number) (a .kind) (a .change), nine-short (a .track))
+
+-- ---- why a correction is answered as it is
+
+reason-short : (r : Reason) → length (flatten (reasonWords r)) ≤ 102
+unfolding reasonWords
+reason-short r = omega (arith, length-flatten (reasonWords r), natural-short (r .value), value-short (r .change), natural-short (r .tolerance))
+
+differences-short : (d : Differences) → length (flatten (differenceWords d)) ≤ 87
+unfolding differenceWords
+differences-short d =
+    omega (arith, length-flatten (differenceWords d), natural-short (flagOf (d .given)), integer-short (d .x), integer-short (d .y), integer-short (d .z))
+
+pub why-short : (e : Explanation) → total (whyLine e) ≤ 235
+unfolding whyLine ascii
+why-short e = omega (arith, two-short (e .number) (e .kind), reason-short (e .reason), differences-short (e .differences))
 
 -- ---- a record
 

@@ -11,7 +11,7 @@ use lib.ListN.{length, drop, getD, drop-of-length-le}
 use lib.Seq.{drop-cons}
 use Rattle.integers.specs.Tests.{_and_}
 use Rattle.text.specs.Numbers.{ascii}
-use Rattle.script.specs.declared.calls.Name.the-variants.{Open, Predict, Correct, Withdraw, Fill, Start, Refine, Nothing}
+use Rattle.script.specs.declared.calls.Name.the-variants.{Open, Predict, Correct, Withdraw, Fill, Start, Refine, Why, Nothing}
 use Rattle.script.specs.Calls.{beginsWith, isWord, nameOf}
 
 by-byte : (t : Bool) (u : Bool) → u ≡ false → (t and u) ≡ false
@@ -82,15 +82,20 @@ module _ (line : List ℕ) where
             a-refine e = rw (a, b, c, d, f, e)
 
             module _ (g : beginsWith line (ascii "refine") ≡ false) where
-              pub a-predict : isWord line (ascii "predict") ≡ true → Predict ≡ nameOf line
+              pub a-why : beginsWith line (ascii "why") ≡ true → Why ≡ nameOf line
               unfolding nameOf
-              a-predict e = rw (a, b, c, d, f, g, e)
+              a-why e = rw (a, b, c, d, f, g, e)
 
-              module _ (h : isWord line (ascii "predict") ≡ false) where
-                pub a-withdraw : isWord line (ascii "withdraw") ≡ true → Withdraw ≡ nameOf line
+              module _ (h : beginsWith line (ascii "why") ≡ false) where
+                pub a-predict : isWord line (ascii "predict") ≡ true → Predict ≡ nameOf line
                 unfolding nameOf
-                a-withdraw e = rw (a, b, c, d, f, g, h, e)
+                a-predict e = rw (a, b, c, d, f, g, h, e)
 
-                pub no-name : isWord line (ascii "withdraw") ≡ false → Nothing ≡ nameOf line
-                unfolding nameOf
-                no-name e = rw (a, b, c, d, f, g, h, e)
+                module _ (k : isWord line (ascii "predict") ≡ false) where
+                  pub a-withdraw : isWord line (ascii "withdraw") ≡ true → Withdraw ≡ nameOf line
+                  unfolding nameOf
+                  a-withdraw e = rw (a, b, c, d, f, g, h, k, e)
+
+                  pub no-name : isWord line (ascii "withdraw") ≡ false → Nothing ≡ nameOf line
+                  unfolding nameOf
+                  no-name e = rw (a, b, c, d, f, g, h, k, e)

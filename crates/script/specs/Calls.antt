@@ -8,7 +8,7 @@ use lib.ListN.{length, replicate}
 use Rattle.text.specs.Numbers.{ascii}
 use Rattle.integers.specs.Tests.{_and_}
 use Rattle.script.specs.declared.calls.Name.{Name}
-use Rattle.script.specs.declared.calls.Name.the-variants.{Open, Predict, Correct, Withdraw, Fill, Start, Refine, Nothing}
+use Rattle.script.specs.declared.calls.Name.the-variants.{Open, Predict, Correct, Withdraw, Fill, Start, Refine, Why, Nothing}
 use Rattle.script.specs.declared.calls.Settings.{Settings}
 use Rattle.script.specs.declared.calls.Floats.{Floats}
 use Rattle.script.specs.declared.calls.OpenCall.{OpenCall}
@@ -39,9 +39,10 @@ nameOf line =
     (cond (beginsWith line (ascii "fill")) Fill
     (cond (beginsWith line (ascii "start")) Start
     (cond (beginsWith line (ascii "refine")) Refine
+    (cond (beginsWith line (ascii "why")) Why
     (cond (isWord line (ascii "predict")) Predict
     (cond (isWord line (ascii "withdraw")) Withdraw
-    Nothing)))))))
+    Nothing))))))))
 
 -- ---- floats, up to the end of the line
 

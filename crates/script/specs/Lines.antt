@@ -1,7 +1,9 @@
 -- The lines that are written, each as its pieces of text, one after the other: `flatten` joins them. Definitions only.
 use Prim.Native.Nat.{ℕ}
+use mathlib.Core.Bool.{Bool, true, false}
 use mathlib.Core.List.{List, [], _∷_, flatten, map}
 use lib.Ieee.{binary64, toBits}
+use lib.IntN.{ℤ}
 use lib.ListN.{take}
 use Rattle.exact.specs.declared.Exact.{Exact}
 use Rattle.exact.specs.declared.Reported.{Reported}
@@ -14,6 +16,9 @@ use Rattle.steps.specs.declared.Answer.{Answer}
 use Rattle.steps.specs.declared.ReportedMotion.{ReportedMotion}
 use Rattle.steps.specs.declared.ReportedPoint.{ReportedPoint}
 use Rattle.epoch_steps.specs.declared.RoundValues.{RoundValues}
+use Rattle.reasons.specs.declared.Reason.{Reason}
+use Rattle.reasons.specs.declared.Differences.{Differences}
+use Rattle.reasons.specs.declared.Explanation.{Explanation}
 use Rattle.text.specs.Numbers.{ascii, decimal, signed, numbers, hex}
 
 -- ---- words, each after a space
@@ -23,6 +28,9 @@ natural n = ascii " " ∷ decimal n ∷ []
 
 unfoldable pub two : ℕ → ℕ → List (List ℕ)
 two m n = flatten (natural m) ∷ flatten (natural n) ∷ []
+
+unfoldable pub integer : ℤ → List (List ℕ)
+integer z = ascii " " ∷ signed z ∷ []
 
 -- the whole and the part
 unfoldable pub exactly : Exact → List (List ℕ)
@@ -67,6 +75,34 @@ roundLine call a =
     call
     ∷ flatten (roundValues (a .number) (a .kind) (a .change))
     ∷ flatten (ninePoints (a .track))
+    ∷ ascii "\n"
+    ∷ []
+
+-- ---- why a correction is answered as it is: the number, the kind, the reason, the differences
+
+-- the value at fault, its change, the tolerance of its kind
+unfoldable pub reasonWords : Reason → List (List ℕ)
+reasonWords r = flatten (natural (r .value)) ∷ flatten (value (r .change)) ∷ flatten (natural (r .tolerance)) ∷ []
+
+unfoldable pub flagOf : Bool → ℕ
+flagOf true = 1
+flagOf false = 0
+
+-- whether they are given, and one for each axis
+unfoldable pub differenceWords : Differences → List (List ℕ)
+differenceWords d =
+    flatten (natural (flagOf (d .given)))
+    ∷ flatten (integer (d .x))
+    ∷ flatten (integer (d .y))
+    ∷ flatten (integer (d .z))
+    ∷ []
+
+unfoldable pub whyLine : Explanation → List (List ℕ)
+whyLine e =
+    ascii "why"
+    ∷ flatten (two (e .number) (e .kind))
+    ∷ flatten (reasonWords (e .reason))
+    ∷ flatten (differenceWords (e .differences))
     ∷ ascii "\n"
     ∷ []
 

@@ -18,6 +18,7 @@ pub enum Name {
     Fill,
     Start,
     Refine,
+    Why,
     Nothing,
 }
 
@@ -93,6 +94,9 @@ pub fn name_of(line: &[u8]) -> Name
     if begins(line, b"refine") {
         return Name::Refine;
     }
+    if begins(line, b"why") {
+        return Name::Why;
+    }
     if is_word(line, b"predict") {
         return Name::Predict;
     }
@@ -155,10 +159,11 @@ pub fn read_open(line: &[u8], at: usize) -> OpenCall
     OpenCall { settings, floats }
 }
 
-pub fn read_sample(line: &[u8]) -> ReadSample
-    ensures { λ r. ⌜ r ≡ sampleAt (now (line .entry)) 7 ⌝ }
+// What follows the name of a correction or of a question why, which ends at a place.
+pub fn read_sample(line: &[u8], at: usize) -> ReadSample
+    ensures { λ r. ⌜ r ≡ sampleAt (now (line .entry)) at ⌝ }
 {
-    let x = bits_word(line, 7);
+    let x = bits_word(line, at);
     let y = bits_word(line, x.end);
     let z = bits_word(line, y.end);
     ReadSample {

@@ -1,5 +1,6 @@
-// Scripts of calls as text: a line read as a call, and an answer and a record written as lines.
+// Scripts of calls as text: a line read as a call, and an answer, an explanation and a record written as lines.
 mod calls;
+mod explanation_lines;
 mod floats;
 mod lines;
 mod pieces;
@@ -13,6 +14,7 @@ pub use calls::name_of;
 pub use calls::read_floats;
 pub use calls::read_open;
 pub use calls::read_sample;
+pub use explanation_lines::put_why;
 pub use lines::put_answer;
 pub use lines::put_no_call;
 pub use lines::put_record;

@@ -31,7 +31,7 @@ pub(crate) fn put_natural(out: &mut [u8], at: usize, n: u64) -> usize
     put_decimal(out, next, n)
 }
 
-fn put_two(out: &mut [u8], at: usize, m: u64, n: u64) -> usize
+pub(crate) fn put_two(out: &mut [u8], at: usize, m: u64, n: u64) -> usize
     requires { ⌜ Room (now out) at (two m n) ⌝ }
     ensures { λ r. ⌜ Wrote (now (out .entry)) at (flatten (two m n)) (now (out .exit)) r ⌝ }
 {
@@ -48,7 +48,7 @@ fn put_exact(out: &mut [u8], at: usize, e: Exact) -> usize
     put_natural(out, b, e.part as u64)
 }
 
-fn put_reported(out: &mut [u8], at: usize, r: Reported) -> usize
+pub(crate) fn put_reported(out: &mut [u8], at: usize, r: Reported) -> usize
     requires { ⌜ Room (now out) at (value r) ⌝ }
     ensures { λ end. ⌜ Wrote (now (out .entry)) at (flatten (value r)) (now (out .exit)) end ⌝ }
 {

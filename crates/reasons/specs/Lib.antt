@@ -1,0 +1,4 @@
+-- What the contracts of `reasons` cite.
+pub mod Reasons
+pub mod Differences
+pub mod Explanations

@@ -1,0 +1,6 @@
+// Why a correction was not accepted, as a sentence written into a lent buffer.
+mod decimals;
+mod sentences;
+mod words;
+
+pub use sentences::put_sentence;
