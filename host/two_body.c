@@ -21,7 +21,7 @@
 enum rounding { PLAIN, CARRIED, OPENING, RECOVERED };
 static const char *const roundings[] = {"plain", "carried", "opening", "recovered"};
 
-static const char *program = "target/bin/replay";
+static const char *program = "programs/replay";
 static enum rounding rounding = PLAIN;
 static bool from_epoch = false;
 static double perigee = 300, eccentricity = 0, inclination = 40, start = 0, days = 3;

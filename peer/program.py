@@ -9,7 +9,7 @@ import subprocess
 HERE = pathlib.Path(__file__).resolve().parent
 TOP = HERE.parent
 OUT = TOP / 'target' / 'peer'
-REPLAY = TOP / 'target' / 'bin' / 'replay'
+REPLAY = TOP / 'programs' / 'replay'
 SOURCES = ('rules.h', 'shared.h', 'rules.c', 'rounds.c', 'reasons.c', 'peer.c')
 
 PARTS = 159667200
@@ -31,9 +31,14 @@ class Arguments(argparse.ArgumentParser):
         self.exit(2, f'{self.prog}: {message}\n')
 
 
+def is_built(program):
+    """Whether the program of the library that a name in programs/ stands for is there."""
+    return (TOP / 'target' / 'bin' / program.name).is_file()
+
+
 def program_path(text):
     """The path of a program that can be run."""
-    path = pathlib.Path(text).resolve()
+    path = pathlib.Path(os.path.abspath(text))
     if not os.access(path, os.X_OK) or not path.is_file():
         raise argparse.ArgumentTypeError(f'{text} is no program')
     return path

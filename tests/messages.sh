@@ -3,9 +3,9 @@
 # against an independent implementation in Python. Build the program first: rt check.
 set -u
 cd "$(dirname "$0")/.." || exit 2
-program=target/bin/oem
-if [ ! -x "$program" ]; then
-    echo "tests/messages.sh: no program $program: run 'rt check' first" >&2
+program=programs/oem
+if [ ! -x target/bin/oem ]; then
+    echo "tests/messages.sh: no program target/bin/oem: run 'rt check' first" >&2
     exit 2
 fi
 written=$(mktemp) || exit 2

@@ -3,9 +3,9 @@
 # Build the program first: rt check.
 set -u
 cd "$(dirname "$0")/.." || exit 2
-program=target/bin/replay
-if [ ! -x "$program" ]; then
-    echo "tests/replay.sh: no program $program: run 'rt check' first" >&2
+program=programs/replay
+if [ ! -x target/bin/replay ]; then
+    echo "tests/replay.sh: no program target/bin/replay: run 'rt check' first" >&2
     exit 2
 fi
 written=$(mktemp) || exit 2

@@ -3,10 +3,10 @@
 # A NAME.out without a NAME.in is for an input that cannot be read. Build the program first: rt check.
 set -u
 cd "$(dirname "$0")/.." || exit 2
-program=target/bin/table_printer
+program=programs/table_printer
 cases=tests/table_printer
-if [ ! -x "$program" ]; then
-    echo "tests/table_printer.sh: no program $program: run 'rt check' first" >&2
+if [ ! -x target/bin/table_printer ]; then
+    echo "tests/table_printer.sh: no program target/bin/table_printer: run 'rt check' first" >&2
     exit 2
 fi
 written=$(mktemp) || exit 2

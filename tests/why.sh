@@ -3,9 +3,9 @@
 # scripts against an independent implementation in Python. Build the program first: rt check.
 set -u
 cd "$(dirname "$0")/.." || exit 2
-program=target/bin/why
-if [ ! -x "$program" ]; then
-    echo "tests/why.sh: no program $program: run 'rt check' first" >&2
+program=programs/why
+if [ ! -x target/bin/why ]; then
+    echo "tests/why.sh: no program target/bin/why: run 'rt check' first" >&2
     exit 2
 fi
 written=$(mktemp) || exit 2
