@@ -36,19 +36,20 @@ class Asking(Script):
         return self.faulty_sample()
 
     def faulty_sample(self):
-        """A sample with floats on one axis or some that are no numbers, infinite or too large, or hardly not."""
+        """A sample with NaNs, infinities or floats that are too large, or hardly not, on one axis or some."""
         words = self.sample()
         for axis in self.rng.sample(AXES, self.rng.randint(1, 3)):
             words[axis] = self.faulty_float()
         return words
 
     def faulty_float(self):
-        sign = self.rng.choice((-1, 1))
-        kind = self.rng.randrange(5)
+        kind = self.rng.randrange(6)
         if kind == 0:
-            return bits(sign * float('inf'))
+            return self.infinity()
         if kind == 1:
-            return word(0x7ff8 << 48 | self.rng.getrandbits(51) | self.rng.getrandbits(1) << 63)
+            return self.no_number()
         if kind < 4:
-            return bits(sign * (SAMPLE_MOST + self.rng.choice((0.5, 0.75, 1.0, float(self.size(2 ** 40))))))
+            return self.too_large()
+        if kind == 4:
+            return bits(self.rng.choice((-1, 1)) * (SAMPLE_MOST + self.rng.choice((0.0, 0.5))))
         return self.some_float()

@@ -113,9 +113,8 @@ class Script:
         kind = rng.randrange(8)
         if kind == 0:
             return word(rng.getrandbits(64))
-        if kind == 1:  # infinities and what is no number
-            rest = rng.choice((0, 0, 1, 2 ** 51, 2 ** 52 - 1, rng.getrandbits(52)))
-            return word(rng.getrandbits(1) << 63 | 0x7ff << 52 | rest)
+        if kind == 1:
+            return rng.choice((self.infinity, self.no_number, self.no_number))()
         if kind == 2:  # zeros, tiny ones, the largest finite ones
             edge = rng.choice((0, 1, 2 ** 52 - 1, 2 ** 52, 0x7fe << 52, 0x7ff << 52))
             return word(rng.getrandbits(1) << 63 | max(0, self.near(edge)))
@@ -129,6 +128,25 @@ class Script:
         if kind == 6:
             return bits(float(self.signed(2 ** rng.choice((10, 28, 30, 60)))))
         return self.usable_float()
+
+    def infinity(self):
+        """One of both signs."""
+        return word(self.rng.getrandbits(1) << 63 | 0x7ff << 52)
+
+    def no_number(self):
+        """A NaN of either sign, quiet or signalling, with the least payload, the greatest, a half of one or any."""
+        rng = self.rng
+        quiet = rng.getrandbits(1)
+        half = rng.choice((rng.randrange(1, 2 ** 32), rng.randrange(1, 2 ** 19) << 32))
+        payload = rng.choice((1 - quiet, 2 ** 51 - 1, half, rng.randrange(1, 2 ** 51)))
+        return word(rng.getrandbits(1) << 63 | 0x7ff << 52 | quiet << 51 | payload)
+
+    def too_large(self):
+        """A float that rounds to more ticks than a sample may have; at times hardly, or the largest there is."""
+        rng = self.rng
+        size = SAMPLE_MOST + rng.choice((0.75, 1.0, 1.5, float(self.size(2 ** 60) + 1)))
+        return rng.choice((bits(size), bits(-size), word(0x7fe << 52 | 2 ** 52 - 1),
+                           word(0xffe << 52 | 2 ** 52 - 1)))
 
     def neighbour(self, value):
         pattern = struct.unpack('>Q', struct.pack('>d', value))[0]

@@ -1,10 +1,10 @@
 """Draws scripts of calls from episodes, each of which leads to some corner of the rules."""
-from moved import *
+from faults import *
 from spoiling import spoilt
 
 # One script in so many steps sessions; the others end soon by a line that is no call.
 SESSION_EVERY = 8
-S = Moved
+S = Faults
 EPISODES = [S.session, S.session, S.session, S.every_number_of_points, S.floats,
             S.refused_openings, S.far_out, S.nearly_right, S.nearly_right, S.moved_to_bounds,
             S.moved_to_bounds, S.estimate_at_bounds, S.at_tolerance, S.at_tolerance,
@@ -14,7 +14,7 @@ EPISODES = [S.session, S.session, S.session, S.every_number_of_points, S.floats,
             S.nearly_starting, S.nearly_starting, S.untrue_held, S.untrue_held, S.untrue_held,
             S.held_while_starting, S.held_before_accepted, S.first_at_tolerance,
             S.several_over_tolerance, S.out_at_some_values, S.out_at_some_values,
-            S.several_floats_at_fault]
+            S.several_floats_at_fault, S.floats_at_fault, S.floats_at_fault]
 
 
 def session_script(script, index):
@@ -49,7 +49,7 @@ def spoilt_script(script, index):
 
 def draw(peer, seed, index):
     """The script of that index, what the peer writes for it, and what the script has met."""
-    script = Moved(peer, f'{seed}/{index}')
+    script = Faults(peer, f'{seed}/{index}')
     turn, kind = divmod(index, SESSION_EVERY)
     if kind == 0:
         return session_script(script, turn)

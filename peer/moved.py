@@ -98,9 +98,11 @@ class Moved(Starts):
             self.call(correct_line(sample))
 
     def led_out(self):
-        """Some axes, each with one kind or both; at times the velocity of one and the position of a later one."""
+        """Some axes, each with one kind or both; at times the velocity of one alone, or with the position of a later one."""
         rng = self.rng
-        if rng.random() < 0.3:
+        if rng.random() < 0.4:
+            return [(rng.choice(AXES), (1,))]
+        if rng.random() < 0.4:
             early, late = sorted(rng.sample(AXES, 2))
             return (early, (1,)), (late, (0,))
         return [(axis, rng.choice(((0,), (1,), (0, 1)))) for axis in rng.sample(AXES, rng.randint(1, 3))]

@@ -66,7 +66,9 @@ def out_of_range(reason, expect):
 
 def at_fault(reason, expect):
     for number, sample, value in [
-            (4, (NAN, INFINITY, LARGE), 1), (4, (LARGE, -INFINITY, NAN), 2), (4, (LARGE, LARGE, NAN), 3),
+            (4, (NAN, INFINITY, LARGE), 1), (4, (INFINITY, NAN, NAN), 2), (4, (LARGE, -INFINITY, NAN), 3),
+            (4, (INFINITY, LARGE, -NAN), 3), (13, (-INFINITY, LARGE, INFINITY), 1), (13, (LARGE, INFINITY, -INFINITY), 2),
+            (13, (LARGE, -LARGE, -INFINITY), 3), (13, (0, INFINITY, 0), 2),
             (5, (LARGE, 0, LARGE), 1), (5, (0, -LARGE, LARGE), 2), (5, (268435456.5, 0, 268435456.75), 3)]:
         found = reason([opened((0, 0), 1), 'predict'], words(sample))
         expect(f'{sample}', told(found), (number, 0, value, 0, 0, None))

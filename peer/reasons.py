@@ -14,7 +14,7 @@ STATES = ('closed', 'settled', 'awaiting', 'starting')
 # The values in the order in which they are looked at, and the axes of a sample.
 VALUES = ('x', 'y', 'z', 'vx', 'vy', 'vz')
 # By answer what it names; accepted and 7 name nothing.
-NAMED = {'again': VALUES, 8: VALUES, 6: VALUES, 4: VALUES[:3], 5: VALUES[:3]}
+NAMED = {'again': VALUES, 8: VALUES, 6: VALUES, 4: VALUES[:3], 13: VALUES[:3], 5: VALUES[:3]}
 NAMELESS = ('accepted', 7)
 # With which answers the differences come at a first correction, and for how many points.
 WITH_DIFFERENCES = ('accepted', 'again', 6, 8)
@@ -69,7 +69,7 @@ def reasons_wanted():
             *((ASKED, answer, value) for answer, values in NAMED.items() for value in values),
             *((ASKED, answer, word) for answer in WITH_DIFFERENCES
               for word in ('differences', 'no differences')),
-            *((ASKED, answer, 'no differences') for answer in (4, 5, 7)),
+            *((ASKED, answer, 'no differences') for answer in (4, 13, 5, 7)),
             *((ASKED, 'with points', p) for p in SIZES),
             *((ASKED, 'at correction', n) for n in ORDINALS),
             *((ASKED, 'refused', state) for state in STATES)]
@@ -100,6 +100,19 @@ def first(values, is_reason):
     return next((number for number, value in enumerate(values, 1) if is_reason(value)), 0)
 
 
+def is_too_large(value):
+    return math.isfinite(value) and abs(round(value)) > SAMPLE_MOST
+
+
+# The numbers that floats call for, in their order, each with what a float is that does.
+AT_FAULT = {4: math.isnan, 13: math.isinf, 5: is_too_large}
+
+
+def fault_number(floats):
+    """The number that a sample calls for, none if it calls for none."""
+    return next((number for number, calls_for in AT_FAULT.items() if any(map(calls_for, floats))), None)
+
+
 def untrue(reason, record, floats, answer):
     """What a reason, asked for on a record, says that the answer of the same correction does not bear out."""
     if (reason.number, reason.kind) != (answer.number, answer.kind):
@@ -117,10 +130,10 @@ def untrue(reason, record, floats, answer):
         return 'a change without a reason'
     if reason.report != reported(reason.change):
         return 'another report'
-    if outcome == 4 and reason.value != first(floats, lambda value: not math.isfinite(value)):
-        return 'not the first float that is no number'
-    if outcome == 5 and reason.value != first(floats, lambda value: abs(round(value)) > SAMPLE_MOST):
-        return 'not the first float that is too large'
+    if outcome != 7 and (outcome if outcome in AT_FAULT else None) != fault_number(floats):
+        return 'another number than the floats call for'
+    if outcome in AT_FAULT and reason.value != first(floats, AT_FAULT[outcome]):
+        return 'not the first float that calls for the number'
     return untrue_changes(reason, record, floats, answer, outcome)
 
 

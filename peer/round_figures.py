@@ -180,12 +180,14 @@ def known_motion(answers, expect):
 def refused_first(answers, expect):
     """First rounds with some faults: the number of the one that is looked at first, and nothing left."""
     nothing, far, nan, large = bits(0.0), 2 ** 52, bits(math.nan), bits(268435457.0)
+    infinite = bits(math.inf)
     for number, points, limit, position, velocity, floats in [
             (1, 0, 0, far, 0, []), (1, 10, 0, far, 0, [nan]), (1, 12, 1, 0, 0, [nothing] * 36),
             *((10, points, 0, far, 0, [nan] * 5) for points in (1, 2, 4, 6, 8)),
             (2, 3, 0, far, 0, [nan] * 8), (3, 3, 9, far, 0, [nan] * 9),
             (6, 3, 1, far, 0, [nan] * 9), (6, 3, 1, 0, -2 ** 40 - 1, [nan] * 9),
-            (4, 3, 1, far - 1, 1, [large] * 8 + [nan]), (5, 3, 1, far - 1, 1, [large] * 9),
+            (4, 3, 1, far - 1, 1, [large] * 8 + [nan]), (4, 3, 1, far - 1, 1, [infinite] * 8 + [nan]),
+            (13, 3, 1, far - 1, 1, [large] * 8 + [infinite]), (5, 3, 1, far - 1, 1, [large] * 9),
             (6, 3, 1, far - 1, 1, [nothing] * 9), (0, 3, 1, far - 2, 1, [nothing] * 9),
             (6, 9, 1, 3 - far, 1, [nothing] * 27), (0, 9, 1, 4 - far, 1, [nothing] * 27)]:
         line = start_line(points, (0, 0), limit, [0, position, 0], [0, velocity, 0], floats)
@@ -197,9 +199,11 @@ def refused_first(answers, expect):
 def refused_later(answers, expect):
     """Later rounds that are refused leave what they found, but 8, which closes."""
     nothing, nan, large, some = bits(0.0), bits(math.nan), bits(268435457.0), bits(12.0)
+    infinite = bits(-math.inf)
     line = start_line(3, (0, 0), 1, [2 ** 52 - 2, 0, 0], [1, 0, 0], [nothing] * 9)
-    for number, floats in [(2, [nan] * 8), (4, [large] * 8 + [nan]), (5, [large] * 9),
-                           (6, [some] * 9), (8, [nothing, nothing, some] * 3)]:
+    for number, floats in [(2, [nan] * 8), (4, [large] * 8 + [nan]), (4, [infinite] * 8 + [nan]),
+                           (13, [large] * 8 + [infinite]), (5, [large] * 9), (6, [some] * 9),
+                           (8, [nothing, nothing, some] * 3)]:
         (_, before), (answer, after) = answers(line, refine_line(floats))
         expect(f'{number} of a later round', (answer.number, answer.kind, any(answer.values)),
                (number, 0, False))

@@ -135,8 +135,11 @@ static bool rounded(double given, int64_t *ticks)
 int round_all(const double *given, size_t length, int64_t *ticks)
 {
     for (size_t i = 0; i < length; i++)
-        if (!isfinite(given[i]))
+        if (isnan(given[i]))
             return 4;
+    for (size_t i = 0; i < length; i++)
+        if (isinf(given[i]))
+            return 13;
     for (size_t i = 0; i < length; i++)
         if (!rounded(given[i], &ticks[i]))
             return 5;

@@ -39,7 +39,8 @@ def sentence(reason, record):
     if reason.number == 0:
         return None
     name = NAMES[reason.value - 1]
-    said = {4: f'{name} of the sample is no finite number',
+    said = {4: f'{name} of the sample is a NaN',
+            13: f'{name} of the sample is infinite',
             5: f'{name} of the sample rounds to more than 268435456 ticks',
             6: f'{name} would be out of range',
             7: 'no correction is awaited'}

@@ -12,10 +12,10 @@ bool in_range(struct motion m);
 bool points_in_range(uint64_t points);
 bool settings_in_range(struct tolerances tolerances, uint64_t limit);
 
-/* The number 4 or 5 if one of the samples calls for it, else 0; ticks takes the rounded ones. */
+/* The first of 4, 13 and 5 that one of the floats calls for, else 0; ticks takes the rounded ones. */
 int round_all(const double *given, size_t length, int64_t *ticks);
 
-/* The number 2, 3, 6, 4 or 5 that an opening calls for, else 0; ticks takes the rounded samples. */
+/* The number 2, 3, 6, 4, 13 or 5 that an opening calls for, else 0; ticks takes the rounded samples. */
 int refusal_of(const struct opening *given, int64_t *ticks);
 struct motion given_point(const struct opening *given, int axis);
 

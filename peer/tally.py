@@ -5,9 +5,10 @@ from program import *
 from reasons import ASKED, STATES, count
 
 # The numbers that each call can answer.
-NUMBERS = {'open': (0, 1, 2, 3, 4, 5, 6), 'predict': (0, 6, 7, 9),
-           'correct': (0, 4, 5, 6, 7, 8), 'withdraw': (0, 7),
-           'start': (0, 1, 2, 3, 4, 5, 6, 10), 'refine': (0, 2, 4, 5, 6, 7, 8)}
+NUMBERS = {'open': (0, 1, 2, 3, 4, 5, 6, 13), 'predict': (0, 6, 7, 9),
+           'correct': (0, 4, 5, 6, 7, 8, 13), 'withdraw': (0, 7),
+           'start': (0, 1, 2, 3, 4, 5, 6, 10, 13), 'refine': (0, 2, 4, 5, 6, 7, 8, 13)}
+COLUMNS = sorted({n for numbers in NUMBERS.values() for n in numbers})
 # The kinds of answer, and which of them each call gives; none is not counted.
 KINDS = ('none', 'accepted', 'again', 'opened')
 KINDS_OF = {'correct': ('accepted', 'again'), 'start': ('again',), 'refine': ('again', 'opened')}
@@ -92,10 +93,10 @@ def calls(met):
 
 
 def print_table(met):
-    print(f'{"":10}{"calls":>9}' + ''.join(f'{number:>9}' for number in range(11)))
+    print(f'{"":10}{"calls":>9}' + ''.join(f'{number:>9}' for number in COLUMNS))
     for call, numbers in NUMBERS.items():
         print(f'{call:10}{met[call]:>9}' + ''.join(
-            f'{met[call, n] if n in numbers else "":>9}' for n in range(11)).rstrip())
+            f'{met[call, n] if n in numbers else "":>9}' for n in COLUMNS).rstrip())
     print(f'{"fill":10}{met["fill"]:>9}')
     print(f'{ASKED:10}{met[ASKED]:>9}')
     print(f'{NO_CALL:10}{met[NO_CALL]:>9}')

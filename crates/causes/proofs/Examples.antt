@@ -65,7 +65,7 @@ pub computed : Computed
 unfolding firstOf byDifferences exactOf numerator sameExact times c g l s total terms next divided run positionPredictor positionCorrector velocityPredictor velocityCorrector olderPart roundedOf any ofInt motionOf still olderMotion presentMotion predictedMotion correctedMotion openedAxis emptyAxis sameMotion inRange remaindersHold samplesSmall emptyZero olderHolds pointsHold settingsHold nowhere presentPoint estimateOf predictedPoint correctedPoint pointInRange pointsAgree settledAgain awaitingAt openedSession closedSession countsHold samePoint settledHolds estimateBegins awaitingHolds holds settled awaiting exactPoint axisSamples openedWith openRefusal full predictRefusal agrees isLast correctRefusal openOf predictOf correctOf placed moved firstFrom beside difference differenceOn differencesWith explainedBy explainOf
 computed =
     record {
-      table = (refl, (refl, (refl, (refl, (refl, (refl, (refl, (refl, (refl, (refl, (refl, tt)))))))))));
+      table = (refl, (refl, (refl, (refl, (refl, (refl, (refl, (refl, (refl, (refl, (refl, (refl, (refl, tt)))))))))))));
       unrefused = refl;
       apart = refl;
       allowed = refl;

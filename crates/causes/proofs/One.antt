@@ -21,7 +21,7 @@ use Rattle.session.specs.Coordinates.{Coordinate, onX, onY, onZ}
 use Rattle.session.specs.Moves.{estimateOf}
 use Rattle.steps.specs.Refusals.{agrees, correctRefusal}
 use Rattle.demands.specs.Records.{Means, AwaitingRecord}
-use Rattle.demands.specs.Refusals.{NotFinite, TooLarge, correctTable}
+use Rattle.demands.specs.Refusals.{NotANumber, Infinite, TooLarge, correctTable}
 use Rattle.demands.proofs.Conditions.{agreement}
 use Rattle.demands.proofs.Records.{awaiting-record}
 use Rattle.demands.proofs.Tables.{correct-first}
@@ -86,11 +86,12 @@ module _ (E F : Explaining) (c : Causes E) (d : Causes F) (s : Session) (a : Sam
 
   by-number : NotZero (numberIn E s a) → Numbered (correctTable s a) (numberIn E s a) → reasonIn E s a ≡ reasonIn F s a
   by-number z (inl e) = one-none _ _ (c .unfitting s a e) (d .unfitting s a (sym same-number ∙ e))
-  by-number z (inr (inl e)) = one-name NotFinite (λ x. Blank) (λ x. one-reason (pos 0) 0) 1 (axesOf a) _ _ (c .notFinite s a e) (d .notFinite s a (sym same-number ∙ e))
-  by-number z (inr (inr (inl e))) = one-name TooLarge (λ x. Blank) (λ x. one-reason (pos 0) 0) 1 (axesOf a) _ _ (c .tooLarge s a e) (d .tooLarge s a (sym same-number ∙ e))
-  by-number z (inr (inr (inr (inl e)))) = one-name (Out (corrected s a)) (λ v. Blank) (λ v. one-reason (pos 0) 0) 1 inOrder _ _ (c .outside s a e) (d .outside s a (sym same-number ∙ e))
-  by-number z (inr (inr (inr (inr (inl e))))) = one-name (Over s a) (Compares s a) (λ v. one-reason _ _) 1 inOrder _ _ (c .ended s a e) (d .ended s a (sym same-number ∙ e))
-  by-number z (inr (inr (inr (inr (inr h))))) = absurd h
+  by-number z (inr (inl e)) = one-name NotANumber (λ x. Blank) (λ x. one-reason (pos 0) 0) 1 (axesOf a) _ _ (c .notANumber s a e) (d .notANumber s a (sym same-number ∙ e))
+  by-number z (inr (inr (inl e))) = one-name Infinite (λ x. Blank) (λ x. one-reason (pos 0) 0) 1 (axesOf a) _ _ (c .infinite s a e) (d .infinite s a (sym same-number ∙ e))
+  by-number z (inr (inr (inr (inl e)))) = one-name TooLarge (λ x. Blank) (λ x. one-reason (pos 0) 0) 1 (axesOf a) _ _ (c .tooLarge s a e) (d .tooLarge s a (sym same-number ∙ e))
+  by-number z (inr (inr (inr (inr (inl e))))) = one-name (Out (corrected s a)) (λ v. Blank) (λ v. one-reason (pos 0) 0) 1 inOrder _ _ (c .outside s a e) (d .outside s a (sym same-number ∙ e))
+  by-number z (inr (inr (inr (inr (inr (inl e)))))) = one-name (Over s a) (Compares s a) (λ v. one-reason _ _) 1 inOrder _ _ (c .ended s a e) (d .ended s a (sym same-number ∙ e))
+  by-number z (inr (inr (inr (inr (inr (inr h)))))) = absurd h
 
   pub same : Same
   same = by (correctRefusal s a) refl
@@ -144,19 +145,21 @@ module _ (E : Explaining) (c : Causes E) (s : Session) (a : Sample) where
   refused-named z (inl e) = ((λ n. absurd (n (c .unfitting s a e .0))), ⊎-elim (λ k. absurd (omega (arith, k, c .refused s a z))) (λ n. absurd (n .1 e)))
   refused-named z (inr more) = ((λ n. inr (z, not-7 more)), (λ n. place more))
     where
-      not-7 : {n : ℕ} → (n ≡ 4) ⊎ ((n ≡ 5) ⊎ ((n ≡ 6) ⊎ ((n ≡ 8) ⊎ ⊥))) → ¬ (n ≡ 7)
+      not-7 : {n : ℕ} → (n ≡ 4) ⊎ ((n ≡ 13) ⊎ ((n ≡ 5) ⊎ ((n ≡ 6) ⊎ ((n ≡ 8) ⊎ ⊥)))) → ¬ (n ≡ 7)
       not-7 (inl e) f = omega (arith, e, f)
       not-7 (inr (inl e)) f = omega (arith, e, f)
       not-7 (inr (inr (inl e))) f = omega (arith, e, f)
       not-7 (inr (inr (inr (inl e)))) f = omega (arith, e, f)
-      not-7 (inr (inr (inr (inr h)))) f = h
+      not-7 (inr (inr (inr (inr (inl e))))) f = omega (arith, e, f)
+      not-7 (inr (inr (inr (inr (inr h))))) f = h
 
-      place : (numberIn E s a ≡ 4) ⊎ ((numberIn E s a ≡ 5) ⊎ ((numberIn E s a ≡ 6) ⊎ ((numberIn E s a ≡ 8) ⊎ ⊥))) → NotZero (reasonIn E s a .value)
-      place (inl e) = named NotFinite (λ x. Blank) 0 (axesOf a) (reasonIn E s a) (c .notFinite s a e)
-      place (inr (inl e)) = named TooLarge (λ x. Blank) 0 (axesOf a) (reasonIn E s a) (c .tooLarge s a e)
-      place (inr (inr (inl e))) = named (Out (corrected s a)) (λ v. Blank) 0 inOrder (reasonIn E s a) (c .outside s a e)
-      place (inr (inr (inr (inl e)))) = named (Over s a) (Compares s a) 0 inOrder (reasonIn E s a) (c .ended s a e)
-      place (inr (inr (inr (inr h)))) = absurd h
+      place : (numberIn E s a ≡ 4) ⊎ ((numberIn E s a ≡ 13) ⊎ ((numberIn E s a ≡ 5) ⊎ ((numberIn E s a ≡ 6) ⊎ ((numberIn E s a ≡ 8) ⊎ ⊥)))) → NotZero (reasonIn E s a .value)
+      place (inl e) = named NotANumber (λ x. Blank) 0 (axesOf a) (reasonIn E s a) (c .notANumber s a e)
+      place (inr (inl e)) = named Infinite (λ x. Blank) 0 (axesOf a) (reasonIn E s a) (c .infinite s a e)
+      place (inr (inr (inl e))) = named TooLarge (λ x. Blank) 0 (axesOf a) (reasonIn E s a) (c .tooLarge s a e)
+      place (inr (inr (inr (inl e)))) = named (Out (corrected s a)) (λ v. Blank) 0 inOrder (reasonIn E s a) (c .outside s a e)
+      place (inr (inr (inr (inr (inl e))))) = named (Over s a) (Compares s a) 0 inOrder (reasonIn E s a) (c .ended s a e)
+      place (inr (inr (inr (inr (inr h))))) = absurd h
 
   pub named-exactly : NamesOne
   named-exactly = by (correctRefusal s a) refl
@@ -173,5 +176,5 @@ module _ (E : Explaining) (c : Causes E) (s : Session) (a : Sample) where
 
   pub changes-given : GivesDifferences E → E s a .differences .given ≡ true → (k : Coordinate) → ChangesBy (s .points) (givenOn k (E s a .differences)) k (estimateOf s) (corrected s a)
   changes-given g e k =
-      let (first, (_, (_, (fits, _)))) = g .exactly s a .0 e in
+      let (first, (_, (_, (_, (fits, _))))) = g .exactly s a .0 e in
       subst (λ d. ChangesBy (s .points) d k (estimateOf s) (corrected s a)) (sym (g .given s a e k)) (changes s (wholeOf a) (awaits fits) first k)

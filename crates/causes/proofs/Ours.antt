@@ -8,8 +8,9 @@ use native.Mathlib.Omega.{arith}
 use borrow.Author.Tests.{eqb-true, eqb-false, eq-eqb}
 use lib.Dec.{eqb}
 use lib.IntN.{ℤ, pos}
+use lib.Ieee.{Float}
 use Rattle.integers.specs.Tests.{_and_}
-use Rattle.rules.specs.Rules.{NotZero, Exactly, Unrefused}
+use Rattle.rules.specs.Rules.{NotZero, Exactly, Unrefused, Decides}
 use Rattle.rules.specs.Readings.{first-exactly}
 use Rattle.exact.specs.Numerator.{exactOf, numerator}
 use Rattle.exact.specs.Laws.{part-below, numerator-exactOf}
@@ -22,12 +23,12 @@ use Rattle.session.proofs.Coordinates.{on-each}
 use Rattle.steps.specs.Refusals.{agrees, correctRefusal}
 use Rattle.steps.specs.Steps.{correctAnswerBy}
 use Rattle.demands.specs.Records.{Means}
-use Rattle.demands.specs.Refusals.{NotFinite, TooLarge, Within, correctTable}
+use Rattle.demands.specs.Refusals.{Some, NotANumber, Infinite, TooLarge, Within, correctTable}
 use Rattle.demands.proofs.Conditions.{agreement}
 use Rattle.demands.proofs.Tables.{correct-first}
 use Rattle.demands.proofs.Ours.{correct-none}
 use Rattle.reasons.specs.declared.Reason.{Reason}
-use Rattle.reasons.specs.Reasons.{placed, noReason, named, isOver, moved, firstFrom, beside}
+use Rattle.reasons.specs.Reasons.{placed, noReason, named, isNoNumber, isInfinity, isOverLimit, isOver, moved, firstFrom, beside}
 use Rattle.reasons.specs.Differences.{differenceOn, differencesOf, noDifferences, without, among, isFirst, differencesWith}
 use Rattle.reasons.specs.Explanations.{explainedBy, reasonsOf, explainOf}
 use Rattle.causes.specs.Causes.{corrected, inOrder, Out, changed, Compares, Blank, NamesNone, NamesPlace, NamesChange, Causes, givenOn, NoneOf, FirstCorrection, GivesDifferences}
@@ -110,19 +111,30 @@ module _ (s : Session) (a : Sample) where
   unfolding beside
   unfitting e = subst NamesNone (sym (reason-at 7 noReason e refl)) (blank 0)
 
-  notFinite : explainOf s a .number ≡ 4 → NamesPlace NotFinite (axesOf a) (explainOf s a .reason)
+  -- what is wrong with a float, by its number
+  names-axis : (test : Float → Bool) (P : Float → Type 0) → ((x : Float) → Decides (test x) (P x)) → Some P (axesOf a) →
+      {n : ℕ} → explainOf s a .number ≡ n → beside n (reasonsOf s a) ≡ firstFrom 1 test named (axesOf a) → NamesPlace P (axesOf a) (explainOf s a .reason)
+  names-axis test P decided some {n} e f =
+      subst (NamesPlace P (axesOf a)) (sym (reason-at n _ e f))
+      (names decided named (λ x. Blank) (λ n x. blank n) 1 (axesOf a) (Values.somewhere P (axesOf a) some))
+
+  notANumber : explainOf s a .number ≡ 4 → NamesPlace NotANumber (axesOf a) (explainOf s a .reason)
   unfolding beside
-  notFinite e =
+  notANumber e =
       let some = ⊎-elim (λ h. h) absurd (applies (correctTable s a) (correctRefusal s a) 4 (correct-first s a) (sym number-is ∙ e) (λ z. omega arith)) in
-      subst (NamesPlace NotFinite (axesOf a)) (sym (reason-at 4 _ e refl))
-      (names Values.not-finite named (λ x. Blank) (λ n x. blank n) 1 (axesOf a) (Values.somewhere NotFinite (axesOf a) some))
+      names-axis isNoNumber NotANumber Values.not-a-number some e refl
+
+  infinite : explainOf s a .number ≡ 13 → NamesPlace Infinite (axesOf a) (explainOf s a .reason)
+  unfolding beside
+  infinite e =
+      let some = ⊎-elim (λ h. h) absurd (applies (correctTable s a) (correctRefusal s a) 13 (correct-first s a) (sym number-is ∙ e) (λ z. omega arith)) in
+      names-axis isInfinity Infinite Values.infinite some e refl
 
   tooLarge : explainOf s a .number ≡ 5 → NamesPlace TooLarge (axesOf a) (explainOf s a .reason)
   unfolding beside
   tooLarge e =
       let some = ⊎-elim (λ h. h) absurd (applies (correctTable s a) (correctRefusal s a) 5 (correct-first s a) (sym number-is ∙ e) (λ z. omega arith)) in
-      subst (NamesPlace TooLarge (axesOf a)) (sym (reason-at 5 _ e refl))
-      (names Values.too-large named (λ x. Blank) (λ n x. blank n) 1 (axesOf a) (Values.somewhere TooLarge (axesOf a) some))
+      names-axis isOverLimit TooLarge Values.too-large some e refl
 
   outside : explainOf s a .number ≡ 6 → NamesPlace (Out (corrected s a)) inOrder (explainOf s a .reason)
   unfolding beside
@@ -145,13 +157,14 @@ causes =
       again = again;
       refused = refused;
       unfitting = unfitting;
-      notFinite = notFinite;
+      notANumber = notANumber;
+      infinite = infinite;
       tooLarge = tooLarge;
       outside = outside;
       ended = ended;
     }
 
--- ---- the differences are given at a first correction, but not with the numbers 4, 5 and 7
+-- ---- the differences are given at a first correction, but not with the numbers 4, 13, 5 and 7
 
 neither : (a b : Bool) → (not (a || b) ≡ true) ↔ ((not a ≡ true) × (not b ≡ true))
 neither true b = ((λ e. absurd (false≢true e)), (λ h. h .0))

@@ -25,17 +25,20 @@ use Rattle.session.specs.Values.{Value, value, valueAt, sizeAt}
 use Rattle.session.proofs.Coordinates.{on-each, corrected-on}
 use Rattle.session.proofs.Values.{of-each}
 use Rattle.demands.specs.Records.{perTick, Between, InRange}
-use Rattle.demands.specs.Refusals.{Some, NotFinite, TooLarge, Within}
+use Rattle.demands.specs.Refusals.{Some, NotANumber, Infinite, TooLarge, Within}
 use Rattle.demands.proofs.Conditions as Conditions
 use Rattle.demands.proofs.Ranges.{value-range}
-use Rattle.reasons.specs.Reasons.{isNotFinite, isOverLimit, isOut, isOver}
+use Rattle.reasons.specs.Reasons.{isNoNumber, isInfinity, isOverLimit, isOut, isOver}
 use Rattle.causes.specs.Causes.{corrected, inOrder, reach, Out, tolerated, Over}
 use Rattle.causes.proofs.Names.{Nowhere}
 
 -- ---- floats
 
-pub not-finite : (x : Float) → Decides (isNotFinite x) (NotFinite x)
-not-finite x = decides (Conditions.not-finite x)
+pub not-a-number : (x : Float) → Decides (isNoNumber x) (NotANumber x)
+not-a-number x = decides (Conditions.not-a-number x)
+
+pub infinite : (x : Float) → Decides (isInfinity x) (Infinite x)
+infinite x = decides (Conditions.infinite x)
 
 pub too-large : (x : Float) → Decides (isOverLimit x) (TooLarge x)
 too-large x = decides (Conditions.too-large x)

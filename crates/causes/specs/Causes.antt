@@ -17,7 +17,7 @@ use Rattle.session.specs.Coordinates.{Coordinate, onX, onY, onZ}
 use Rattle.session.specs.Moves.{estimateOf, correctedPoint}
 use Rattle.session.specs.Values.{Value, value, valueAt}
 use Rattle.demands.specs.Records.{perTick, Between, Means}
-use Rattle.demands.specs.Refusals.{NotFinite, TooLarge, Within, correctTable}
+use Rattle.demands.specs.Refusals.{NotANumber, Infinite, TooLarge, Within, correctTable}
 use Rattle.reasons.specs.declared.Reason.{Reason}
 use Rattle.reasons.specs.declared.Differences.{Differences}
 use Rattle.reasons.specs.declared.Explanation.{Explanation}
@@ -114,7 +114,8 @@ pub record Causes (E : Explaining) : Type 0 where
   -- a refusal: what each number names
   pub refused : (s : Session) (a : Sample) → NotZero (numberIn E s a) → E s a .kind ≡ 0
   pub unfitting : (s : Session) (a : Sample) → numberIn E s a ≡ 7 → NamesNone (reasonIn E s a)
-  pub notFinite : (s : Session) (a : Sample) → numberIn E s a ≡ 4 → NamesPlace NotFinite (axesOf a) (reasonIn E s a)
+  pub notANumber : (s : Session) (a : Sample) → numberIn E s a ≡ 4 → NamesPlace NotANumber (axesOf a) (reasonIn E s a)
+  pub infinite : (s : Session) (a : Sample) → numberIn E s a ≡ 13 → NamesPlace Infinite (axesOf a) (reasonIn E s a)
   pub tooLarge : (s : Session) (a : Sample) → numberIn E s a ≡ 5 → NamesPlace TooLarge (axesOf a) (reasonIn E s a)
   pub outside : (s : Session) (a : Sample) → numberIn E s a ≡ 6 → NamesPlace (Out (corrected s a)) inOrder (reasonIn E s a)
   pub ended : (s : Session) (a : Sample) → numberIn E s a ≡ 8 → NamesChange s a (reasonIn E s a)
@@ -126,13 +127,13 @@ givenOn onX d = d .x
 givenOn onY d = d .y
 givenOn onZ d = d .z
 
--- a first correction, and none of the numbers 4, 5 and 7
+-- a first correction, and none of the numbers 4, 13, 5 and 7
 abbrev pub NoneOf : List ℕ → ℕ → Type 0
 NoneOf [] n = Unit {0}
 NoneOf (m ∷ rest) n = (¬ (n ≡ m)) × NoneOf rest n
 
 abbrev pub FirstCorrection : Session → ℕ → Type 0
-FirstCorrection s n = (s .corrections ≡ 0) × NoneOf (4 ∷ 5 ∷ 7 ∷ []) n
+FirstCorrection s n = (s .corrections ≡ 0) × NoneOf (4 ∷ 13 ∷ 5 ∷ 7 ∷ []) n
 
 pub record GivesDifferences (E : Explaining) : Type 0 where
   pub exactly : (s : Session) (a : Sample) → (E s a .differences .given ≡ true) ↔ FirstCorrection s (numberIn E s a)

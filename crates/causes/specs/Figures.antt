@@ -94,8 +94,12 @@ figures =
     -- y comes to 2^52 + 1, and the velocity of z to 2^40 + 11
     ∷ explains (awaiting 1 1 12 2 (point (pos 0) (pos (2 ^ 52 - 1)) (pos 0))) (sample (pos 0) (pos 24) (pos 0)) (says 6 0 2 (pos 0) 0 0 (pos 0) (pos 24) (pos 0))
     ∷ explains (awaiting 1 1 12 2 (point (pos 0) (pos 0) (pos (2 ^ 40 - 1)))) (sample (pos 0) (pos 0) (pos 24)) (says 6 0 6 (pos 0) 0 0 (pos 0) (pos 0) (pos 24))
-    -- an infinity on y before a NaN on z, and one tick too many on z
-    ∷ explains (awaiting 1 1 12 2 origin) (record { x = float (pos 268435457); y = inf true; z = nan }) (saysOnly 4 0 2 (pos 0) 0 0)
+    -- one tick too many on x, an infinity on y and a NaN on z: the NaN
+    ∷ explains (awaiting 1 1 12 2 origin) (record { x = float (pos 268435457); y = inf true; z = nan }) (saysOnly 4 0 3 (pos 0) 0 0)
+    -- without the NaN the infinity, of either sign; of two the first
+    ∷ explains (awaiting 1 1 12 2 origin) (record { x = float (pos 268435457); y = inf true; z = float (pos 0) }) (saysOnly 13 0 2 (pos 0) 0 0)
+    ∷ explains (awaiting 1 1 12 2 origin) (record { x = inf false; y = inf true; z = float (pos 268435457) }) (saysOnly 13 0 1 (pos 0) 0 0)
+    -- one tick too many on z
     ∷ explains (awaiting 1 1 12 2 origin) (sample (pos 0) (pos 0) (pos 268435457)) (saysOnly 5 0 3 (pos 0) 0 0)
     -- no correction is awaited
     ∷ explains (opened 1 1 12 2 origin) (sample (pos 0) (pos 24) (pos 0)) (saysOnly 7 0 0 (pos 0) 0 0)

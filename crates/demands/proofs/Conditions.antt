@@ -1,5 +1,5 @@
 -- The tests of the calls decide the conditions of the tables, one by one: floats, settings, points, and the points of a round.
-use mathlib.Core.Path.{_≡_, refl, ap, _∙_}
+use mathlib.Core.Path.{_≡_, refl, sym, _∙_}
 use mathlib.Core.Logic.{_↔_, _⊎_, inl, inr, ⊎-elim, Iff·rfl, Iff·and, Iff·trans}
 use mathlib.Core.Bool.{Bool, true, false, not, _||_, cond, false≢true, true≢false}
 use mathlib.Core.List.{List, [], _∷_}
@@ -7,6 +7,7 @@ use Prim.Native.Nat.{ℕ, _+_, _*_, _≤_, _<_, zero, suc}
 use native.Mathlib.Omega.{arith}
 use borrow.Author.Tests.{eqb-true, eq-eqb, leb-true, leb-false, le-leb, eqb-false}
 use lib.Dec.{eqb, leb}
+use lib.IntN.{ℤ}
 use lib.Ieee.{Float, nan, inf, fin, up, down}
 use lib.Ieee.Nearest.{closest}
 use lib.ListN.{length}
@@ -27,7 +28,7 @@ use Rattle.session.proofs.Values.{of-each as each-kind, agree-iff}
 use Rattle.session.proofs.Rules.{points-hold, settings-hold}
 use Rattle.steps.specs.Refusals.{full, agrees, isLast}
 use Rattle.rules.specs.Rules.{Decides}
-use Rattle.demands.specs.Refusals.{Some, NotFinite, TooLarge, Near, Within, Last, RoundWithin, Even}
+use Rattle.demands.specs.Refusals.{Some, NotANumber, Infinite, TooLarge, Near, Within, Last, RoundWithin, Even}
 use Rattle.demands.specs.Records.{SomePoints, Settings, perTick}
 use Rattle.demands.proofs.Ranges.{every}
 use Rattle.epoch_coefficients.specs.Formulas.{hasCentre}
@@ -62,15 +63,22 @@ module _ (test : Rounded → Bool) (P : Float → Type 0) (h : (x : Float) → (
   any-decides : (xs : List Float) → Decides (any test xs) (Some P xs)
   any-decides xs = decides (any-to xs, any-from xs)
 
-pub not-finite : (x : Float) → ((isNotANumber (roundedOf x) || isInfinite (roundedOf x)) ≡ true) ↔ NotFinite x
+-- a finite float rounds to a tick or is too large: nothing else is said of it
+neither-said : (test : Rounded → Bool) (t : Bool) (n : ℤ) → test (R.Ticks n) ≡ false → test R.TooLarge ≡ false → (test (cond t (R.Ticks n) R.TooLarge) ≡ true) ↔ ⊥
+neither-said test true n f g = ((λ e. false≢true (sym f ∙ e)), absurd)
+neither-said test false n f g = ((λ e. false≢true (sym g ∙ e)), absurd)
+
+pub not-a-number : (x : Float) → (isNotANumber (roundedOf x) ≡ true) ↔ NotANumber x
 unfolding roundedOf
-not-finite nan = ((λ e. tt), (λ p. refl))
-not-finite (inf s) = ((λ e. tt), (λ p. refl))
-not-finite (fin s m e) = by (leb (closest (m * up e) (down e)) limit)
-  where
-    by : (t : Bool) → let r = cond t (R.Ticks (signed s (closest (m * up e) (down e)))) R.TooLarge in ((isNotANumber r || isInfinite r) ≡ true) ↔ ⊥
-    by true = (false≢true, absurd)
-    by false = (false≢true, absurd)
+not-a-number nan = ((λ e. tt), (λ p. refl))
+not-a-number (inf s) = (false≢true, absurd)
+not-a-number (fin s m e) = neither-said isNotANumber (leb (closest (m * up e) (down e)) limit) (signed s (closest (m * up e) (down e))) refl refl
+
+pub infinite : (x : Float) → (isInfinite (roundedOf x) ≡ true) ↔ Infinite x
+unfolding roundedOf
+infinite nan = (false≢true, absurd)
+infinite (inf s) = ((λ e. tt), (λ p. refl))
+infinite (fin s m e) = neither-said isInfinite (leb (closest (m * up e) (down e)) limit) (signed s (closest (m * up e) (down e))) refl refl
 
 pub too-large : (x : Float) → (isTooLarge (roundedOf x) ≡ true) ↔ TooLarge x
 unfolding roundedOf
@@ -85,20 +93,11 @@ too-large (fin s m e) = by (leb n limit) refl
     by true f = ((λ e. absurd (false≢true e)), (λ l. absurd (omega (arith, leb-true n limit f))))
     by false f = ((λ e. leb-false n limit f), (λ l. refl))
 
--- a NaN is looked for in all floats, and then an infinity
-unfit-any : (xs : List Float) → (any isNotANumber xs || any isInfinite xs) ≡ any (λ r. isNotANumber r || isInfinite r) xs
-unfolding any
-unfit-any [] = refl
-unfit-any (x ∷ xs) = regroup (isNotANumber (roundedOf x)) (isInfinite (roundedOf x)) (any isNotANumber xs) (any isInfinite xs) ∙ ap (λ t. (isNotANumber (roundedOf x) || isInfinite (roundedOf x)) || t) (unfit-any xs)
-  where
-    regroup : (a b c d : Bool) → ((a || c) || (b || d)) ≡ ((a || b) || (c || d))
-    regroup true b c d = refl
-    regroup false true true d = refl
-    regroup false true false d = refl
-    regroup false false c d = refl
+pub no-numbers : (xs : List Float) → Decides (any isNotANumber xs) (Some NotANumber xs)
+no-numbers = any-decides isNotANumber NotANumber not-a-number
 
-pub unfit : (xs : List Float) → Decides (any isNotANumber xs || any isInfinite xs) (Some NotFinite xs)
-unfit xs = rw (unfit-any xs) (any-decides (λ r. isNotANumber r || isInfinite r) NotFinite not-finite xs)
+pub infinities : (xs : List Float) → Decides (any isInfinite xs) (Some Infinite xs)
+infinities = any-decides isInfinite Infinite infinite
 
 pub large : (xs : List Float) → Decides (any isTooLarge xs) (Some TooLarge xs)
 large = any-decides isTooLarge TooLarge too-large

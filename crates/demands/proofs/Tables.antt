@@ -11,14 +11,14 @@ use Rattle.session.specs.Requests.{Request}
 use Rattle.steps.specs.Refusals.{sampleRules, openRules, openRefusal, predictRules, predictRefusal, correctRules, correctRefusal, withdrawRules, withdrawRefusal}
 use Rattle.epoch_steps.specs.Refusals.{firstRound, startRules, startRefusal, laterRound, refineRules, refineRefusal}
 use Rattle.demands.specs.Refusals.{sampleTable, openTable, predictTable, correctTable, withdrawTable, startTable, refineTable}
-use Rattle.demands.proofs.Conditions.{unfit, large, agreement, some-points, enough, settings, room, is-last, centred, rounds-apart}
+use Rattle.demands.proofs.Conditions.{no-numbers, infinities, large, agreement, some-points, enough, settings, room, is-last, centred, rounds-apart}
 use Rattle.demands.proofs.Ranges.{exact-range, predicted-range, corrected-range, track-range}
 use Rattle.demands.proofs.Records.{settled-record, awaiting-record, starting-record}
 
 -- ---- the tests decide the statements
 
 samples-decided : (xs : List Float) → Decided (sampleRules xs) (sampleTable xs)
-samples-decided xs = by-itself (unfit xs) (by-itself (large xs) none-left)
+samples-decided xs = by-itself (no-numbers xs) (by-itself (infinities xs) (by-itself (large xs) none-left))
 
 open-decided : (r : Request) → Decided (openRules r) (openTable r)
 open-decided r =

@@ -29,11 +29,17 @@ abbrev pub Some : (Float → Type 0) → List Float → Type 0
 Some P [] = ⊥
 Some P (x ∷ xs) = P x ⊎ Some P xs
 
--- a NaN or an infinity
-abbrev pub NotFinite : Float → Type 0
-NotFinite nan = Unit {0}
-NotFinite (inf s) = Unit {0}
-NotFinite (fin s m e) = ⊥
+-- a NaN; no other float is one
+abbrev pub NotANumber : Float → Type 0
+NotANumber nan = Unit {0}
+NotANumber (inf s) = ⊥
+NotANumber (fin s m e) = ⊥
+
+-- an infinity, of either sign
+abbrev pub Infinite : Float → Type 0
+Infinite nan = ⊥
+Infinite (inf s) = Unit {0}
+Infinite (fin s m e) = ⊥
 
 -- to the nearest whole tick it is more than 2^28, either way
 abbrev pub TooLarge : Float → Type 0
@@ -65,10 +71,11 @@ Even p = (m : ℕ) × (p ≡ m + m)
 
 -- ---- the tables
 
--- samples: all of them are looked at for 4 before any is for 5
+-- samples: all of them are looked at for 4, then all for 13, then all for 5
 abbrev pub sampleTable : List Float → List Rule
 sampleTable xs =
-    rule 4 (Some NotFinite xs)
+    rule 4 (Some NotANumber xs)
+    ∷ rule 13 (Some Infinite xs)
     ∷ rule 5 (Some TooLarge xs)
     ∷ []
 

@@ -14,7 +14,7 @@ use Rattle.session.specs.Moves.{correctedPoint, estimateOf}
 use Rattle.session.specs.Values.{Value, six, changeAt}
 use Rattle.steps.specs.Refusals.{correctRefusal}
 use Rattle.reasons.specs.declared.Reason.{Reason}
-use Rattle.reasons.specs.Reasons.{placed, named, moved, firstFrom, first, isNotFinite, isOverLimit, isOut, isOver, beside}
+use Rattle.reasons.specs.Reasons.{placed, named, moved, firstFrom, first, isNoNumber, isInfinity, isOverLimit, isOut, isOver, beside}
 use Rattle.reasons.specs.Explanations.{explainedBy, explainOf}
 
 record ChangesExactly (r : Reason) : Type 0 where
@@ -44,10 +44,11 @@ of-explanation s a =
     let n = correctRefusal s a in
     let q = correctedPoint s (wholeOf a) in
     let over = of-first 1 (isOver s q) (moved s q) (of-move s q) six in
-    of-either (eqb n 4) (of-first 1 isNotFinite named (λ k x. of-place k) (axesOf a))
+    of-either (eqb n 4) (of-first 1 isNoNumber named (λ k x. of-place k) (axesOf a))
+    (of-either (eqb n 13) (of-first 1 isInfinity named (λ k x. of-place k) (axesOf a))
     (of-either (eqb n 5) (of-first 1 isOverLimit named (λ k x. of-place k) (axesOf a))
     (of-either (eqb n 6) (of-first 1 (isOut q) named (λ k v. of-place k) six)
-    (of-either (eqb n 8) over (of-either (eqb n 0) over (of-place 0)))))
+    (of-either (eqb n 8) over (of-either (eqb n 0) over (of-place 0))))))
 
 pub explained : (s : Session) (a : Sample) → explainOf s a .reason .change .exact .part < D
 explained s a = of-explanation s a .small

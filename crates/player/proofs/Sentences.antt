@@ -99,12 +99,13 @@ named-short n rest = omega (arith, name-short n)
 said-short : (n : ℕ) (s : Session) (r : Reason) → AtMost 145 (said n s r)
 unfolding said ascii
 said-short n s r =
-    either (eqb n 4) (record { fits = omega (arith, named-short (r .value) (ascii " of the sample is no finite number: refused 4")) })
+    either (eqb n 4) (record { fits = omega (arith, named-short (r .value) (ascii " of the sample is a NaN: refused 4")) })
+    (either (eqb n 13) (record { fits = omega (arith, named-short (r .value) (ascii " of the sample is infinite: refused 13")) })
     (either (eqb n 5) (record { fits = omega (arith, named-short (r .value) (ascii " of the sample rounds to more than 268435456 ticks: refused 5")) })
     (either (eqb n 6) (record { fits = omega (arith, named-short (r .value) (ascii " would be out of range: refused 6")) })
     (either (eqb n 7) (record { fits = omega arith })
     (either (eqb n 8) (record { fits = omega (arith, over-short s r (ascii ", the last: refused 8")) })
-    (record { fits = omega (arith, over-short s r []) })))))
+    (record { fits = omega (arith, over-short s r []) }))))))
 
 told-short : (line : ℕ) (s : Session) (e : Explanation) → total (told line s e) ≤ 173
 unfolding told ascii

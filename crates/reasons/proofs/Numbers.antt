@@ -25,7 +25,7 @@ use Rattle.steps.specs.Steps.{correctAnswerBy}
 use Rattle.reasons.specs.declared.Reason.{Reason}
 use Rattle.reasons.specs.declared.Differences.{Differences}
 use Rattle.reasons.specs.declared.Explanation.{Explanation}
-use Rattle.reasons.specs.Reasons.{placed, noReason, named, first, isNotFinite, isOverLimit, isOver, moved, pointReasons, beside, isRefusedWith}
+use Rattle.reasons.specs.Reasons.{placed, noReason, named, first, isNoNumber, isInfinity, isOverLimit, isOver, moved, pointReasons, beside, isRefusedWith}
 use Rattle.reasons.specs.Differences.{noDifferences, differencesWith}
 use Rattle.reasons.specs.Explanations.{explanation, explainedBy, reasonsOf, explainOf, judgedPoint}
 use Rattle.reasons.proofs.First.{every-passes, none-fails}
@@ -44,14 +44,21 @@ module _ (s : Session) (a : Sample) where
 -- ---- a sample: what refuses a float by itself is what it is
 
 abbrev single : Rounded → ℕ
-single r = firstOf (((isNotANumber r || false) || (isInfinite r || false), 4) ∷ (isTooLarge r || false, 5) ∷ [])
+single r = firstOf ((isNotANumber r || false, 4) ∷ (isInfinite r || false, 13) ∷ (isTooLarge r || false, 5) ∷ [])
 
-of-4 : (r : Rounded) → eqb (single r) 4 ≡ (isNotANumber r || isInfinite r)
+of-4 : (r : Rounded) → eqb (single r) 4 ≡ isNotANumber r
 unfolding firstOf
 of-4 (R.Ticks n) = refl
 of-4 R.NotANumber = refl
 of-4 R.Infinite = refl
 of-4 R.TooLarge = refl
+
+of-13 : (r : Rounded) → eqb (single r) 13 ≡ isInfinite r
+unfolding firstOf
+of-13 (R.Ticks n) = refl
+of-13 R.NotANumber = refl
+of-13 R.Infinite = refl
+of-13 R.TooLarge = refl
 
 of-5 : (r : Rounded) → eqb (single r) 5 ≡ isTooLarge r
 unfolding firstOf
@@ -60,9 +67,13 @@ of-5 R.NotANumber = refl
 of-5 R.Infinite = refl
 of-5 R.TooLarge = refl
 
-refused-4 : (x : Float) → isRefusedWith 4 x ≡ isNotFinite x
+refused-4 : (x : Float) → isRefusedWith 4 x ≡ isNoNumber x
 unfolding any
 refused-4 x = of-4 (roundedOf x)
+
+refused-13 : (x : Float) → isRefusedWith 13 x ≡ isInfinity x
+unfolding any
+refused-13 x = of-13 (roundedOf x)
 
 refused-5 : (x : Float) → isRefusedWith 5 x ≡ isOverLimit x
 unfolding any
@@ -73,6 +84,10 @@ module _ (s : Session) (a : Sample) where
   unfolding explainedBy beside differencesWith
   at-4 = ap (λ test. explanation 4 0 (first test named (axesOf a)) noDifferences) (λ i x. refused-4 x i)
 
+  at-13 : explanation 13 0 (first (isRefusedWith 13) named (axesOf a)) noDifferences ≡ explainedBy 13 (beside 13 (reasonsOf s a)) s (wholeOf a)
+  unfolding explainedBy beside differencesWith
+  at-13 = ap (λ test. explanation 13 0 (first test named (axesOf a)) noDifferences) (λ i x. refused-13 x i)
+
   at-5 : explanation 5 0 (first (isRefusedWith 5) named (axesOf a)) noDifferences ≡ explainedBy 5 (beside 5 (reasonsOf s a)) s (wholeOf a)
   unfolding explainedBy beside differencesWith
   at-5 = ap (λ test. explanation 5 0 (first test named (axesOf a)) noDifferences) (λ i x. refused-5 x i)
@@ -80,7 +95,7 @@ module _ (s : Session) (a : Sample) where
   pub at-fault : (f : Fault) → NotZero (faultNumber f) → explanation (faultNumber f) 0 (first (isRefusedWith (faultNumber f)) named (axesOf a)) noDifferences ≡ explainedBy (faultNumber f) (beside (faultNumber f) (reasonsOf s a)) s (wholeOf a)
   at-fault F.Nothing z = absurd (z refl)
   at-fault F.NotANumber z = at-4
-  at-fault F.Infinite z = at-4
+  at-fault F.Infinite z = at-13
   at-fault F.TooLarge z = at-5
 
 -- ---- a point in range

@@ -33,7 +33,7 @@ noDifferences = record { given = false; x = pos 0; y = pos 0; z = pos 0 }
 -- ---- they are given at the first correction of a point, but not with these numbers
 
 abbrev pub without : List ℕ
-without = 4 ∷ 5 ∷ 7 ∷ []
+without = 4 ∷ 13 ∷ 5 ∷ 7 ∷ []
 
 abbrev pub among : ℕ → List ℕ → Bool
 among n [] = false

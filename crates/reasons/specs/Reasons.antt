@@ -1,6 +1,6 @@
 -- The first value at fault: what is tested of each value, and for each number which reason it has. Definitions only.
 use Prim.Native.Nat.{ℕ, suc}
-use mathlib.Core.Bool.{Bool, not, _||_, cond}
+use mathlib.Core.Bool.{Bool, not, cond}
 use mathlib.Core.List.{List, [], _∷_}
 use lib.Dec.{eqb}
 use lib.IntN.{pos}
@@ -50,9 +50,13 @@ first test said xs = firstFrom 1 test said xs
 
 -- ---- what is tested
 
--- a float is a NaN or an infinity
-abbrev pub isNotFinite : Float → Bool
-isNotFinite x = isNotANumber (roundedOf x) || isInfinite (roundedOf x)
+-- a float is a NaN
+abbrev pub isNoNumber : Float → Bool
+isNoNumber x = isNotANumber (roundedOf x)
+
+-- it is an infinity
+abbrev pub isInfinity : Float → Bool
+isInfinity x = isInfinite (roundedOf x)
 
 -- it rounds to too many ticks
 abbrev pub isOverLimit : Float → Bool
@@ -70,7 +74,8 @@ isOver s q v = not (withinAt (s .tolerances) q (estimateOf s) v)
 
 abbrev pub sampleReasons : List Float → List (ℕ × Reason)
 sampleReasons xs =
-    (4, first isNotFinite named xs)
+    (4, first isNoNumber named xs)
+    ∷ (13, first isInfinity named xs)
     ∷ (5, first isOverLimit named xs)
     ∷ []
 

@@ -9,7 +9,7 @@ mod ranges;
 
 pub use explains::explain;
 
-// Which value is the cause: 0 for none, 1 to 6 for the positions x, y, z and then the velocities x, y, z, and with 4 and 5 the sample's axis 1 to 3; its
+// Which value is the cause: 0 for none, 1 to 6 for the positions x, y, z and then the velocities x, y, z, and with 4, 13 and 5 the sample's axis 1 to 3; its
 // change from the last estimate, beside its report; and the tolerance of its kind. Both are zero where no change was compared.
 pub struct Reason {
     pub value: u8,

@@ -14,7 +14,7 @@ module _ (s : Session) (r : Reason) where
   pub as-said : {a b : List ℕ} {i j n k : ℕ} → n ≡ k → Wrote a i (flatten (said k s r)) b j → Wrote a i (flatten (said n s r)) b j
   as-said e w = retold (ap (λ m. flatten (said m s r)) (sym e)) w
 
-  pub another : (n : ℕ) → NoneOf n (8 ∷ 7 ∷ 6 ∷ 5 ∷ 4 ∷ []) → overTolerance s r [] ≡ said n s r
+  pub another : (n : ℕ) → NoneOf n (8 ∷ 7 ∷ 6 ∷ 5 ∷ 13 ∷ 4 ∷ []) → overTolerance s r [] ≡ said n s r
   unfolding said
   another n h =
-      rw (ne-eqb n 4 (h .0 .0 .0 .0 .1), ne-eqb n 5 (h .0 .0 .0 .1), ne-eqb n 6 (h .0 .0 .1), ne-eqb n 7 (h .0 .1), ne-eqb n 8 (h .1))
+      rw (ne-eqb n 4 (h .0 .0 .0 .0 .0 .1), ne-eqb n 13 (h .0 .0 .0 .0 .1), ne-eqb n 5 (h .0 .0 .0 .1), ne-eqb n 6 (h .0 .0 .1), ne-eqb n 7 (h .0 .1), ne-eqb n 8 (h .1))

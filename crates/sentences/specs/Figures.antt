@@ -78,7 +78,8 @@ sentences =
     says 1 0 2 (over 2 (pos 17) 39916800 16) "line 12: y moved 17.25 ticks, its tolerance is 16; second correction of three\n"
     ∷ says 0 0 2 (over 5 (pos 17) 39916800 16) "line 12: vy moved 17.25 ticks per step, its tolerance is 16; first correction of three\n"
     ∷ says 2 8 0 (over 2 (negsuc 17) 119750400 16) "line 12: y moved -17.25 ticks, its tolerance is 16; third correction of three, the last: refused 8\n"
-    ∷ says 0 4 0 (placed 2) "line 12: y of the sample is no finite number: refused 4\n"
+    ∷ says 0 4 0 (placed 2) "line 12: y of the sample is a NaN: refused 4\n"
+    ∷ says 0 13 0 (placed 3) "line 12: z of the sample is infinite: refused 13\n"
     ∷ says 0 5 0 (placed 2) "line 12: y of the sample rounds to more than 268435456 ticks: refused 5\n"
     ∷ says 0 6 0 (placed 2) "line 12: y would be out of range: refused 6\n"
     ∷ says 0 6 0 (placed 5) "line 12: vy would be out of range: refused 6\n"
@@ -88,4 +89,4 @@ sentences =
 
 pub sentences-hold : All sentences
 unfolding numerator nearestOf ascii decimal digits lastDigits flatten sizeOf tenDecimals shortened signText restText changeText placed nameText ordinal cardinal unitText moved against counted overTolerance named said isAccepted told sentence
-sentences-hold = (refl, (refl, (refl, (refl, (refl, (refl, (refl, (refl, (refl, tt)))))))))
+sentences-hold = (refl, (refl, (refl, (refl, (refl, (refl, (refl, (refl, (refl, (refl, tt))))))))))

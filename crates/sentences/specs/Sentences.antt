@@ -65,12 +65,13 @@ named value rest = nameText value ∷ rest ∷ []
 
 unfoldable pub said : ℕ → Session → Reason → List (List ℕ)
 said number s r =
-    cond (eqb number 4) (named (r .value) (ascii " of the sample is no finite number: refused 4"))
+    cond (eqb number 4) (named (r .value) (ascii " of the sample is a NaN: refused 4"))
+    (cond (eqb number 13) (named (r .value) (ascii " of the sample is infinite: refused 13"))
     (cond (eqb number 5) (named (r .value) (ascii " of the sample rounds to more than 268435456 ticks: refused 5"))
     (cond (eqb number 6) (named (r .value) (ascii " would be out of range: refused 6"))
     (cond (eqb number 7) (ascii "no correction is awaited: refused 7" ∷ [])
     (cond (eqb number 8) (overTolerance s r (ascii ", the last: refused 8"))
-    (overTolerance s r [])))))
+    (overTolerance s r []))))))
 
 -- ---- the sentence of a line of a script
 

@@ -76,12 +76,8 @@ fn put_said(out: &mut [u8], at: usize, number: u8, s: Session, r: Reason) -> usi
     ensures { λ end. ⌜ Wrote (now (out .entry)) at (flatten (said number s r)) (now (out .exit)) end ⌝ }
 {
     match number {
-        4 => put_named(
-            out,
-            at,
-            r.value,
-            b" of the sample is no finite number: refused 4",
-        ),
+        4 => put_named(out, at, r.value, b" of the sample is a NaN: refused 4"),
+        13 => put_named(out, at, r.value, b" of the sample is infinite: refused 13"),
         5 => put_named(
             out,
             at,

@@ -1,6 +1,6 @@
 -- Which number refuses a call: each call has its rules in the paper's order, and the first that applies gives its number, 0 if none does. Definitions only.
 use Prim.Native.Nat.{ℕ, _+_, _*_}
-use mathlib.Core.Bool.{Bool, not, _||_}
+use mathlib.Core.Bool.{Bool, not}
 use mathlib.Core.List.{List, [], _∷_, _++_}
 use lib.Dec.{eqb, leb}
 use lib.Ieee.{Float}
@@ -21,11 +21,12 @@ use Rattle.session.specs.Apart.{pointsAgree, pointChange}
 use Rattle.session.specs.Holding.{settled, awaiting}
 use Rattle.session.specs.Requests.{Request, exactPoint}
 
--- ---- samples: all of them are looked at for 4 before any is for 5
+-- ---- samples: all of them are looked at for 4, then all for 13, then all for 5
 
 abbrev pub sampleRules : List Float → List (Bool × ℕ)
 sampleRules xs =
-    (any isNotANumber xs || any isInfinite xs, 4)
+    (any isNotANumber xs, 4)
+    ∷ (any isInfinite xs, 13)
     ∷ (any isTooLarge xs, 5)
     ∷ []
 
@@ -33,7 +34,7 @@ sampleRules xs =
 abbrev pub faultNumber : Fault → ℕ
 faultNumber Nothing = 0
 faultNumber NotANumber = 4
-faultNumber Infinite = 4
+faultNumber Infinite = 13
 faultNumber TooLarge = 5
 
 -- ---- open

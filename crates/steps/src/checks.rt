@@ -10,7 +10,7 @@ pub fn fault_number(fault: Fault) -> u8
     match fault {
         Fault::Nothing => 0,
         Fault::NotANumber => 4,
-        Fault::Infinite => 4,
+        Fault::Infinite => 13,
         Fault::TooLarge => 5,
     }
 }

@@ -1,7 +1,7 @@
 -- The whole table holds, shown by computing.
 use mathlib.Core.Path.{refl}
 use mathlib.Core.List.{_++_}
-use lib.Ieee.{ofInt}
+use lib.Ieee.{ofInt, ofBits}
 use Rattle.integers.specs.Lines.{All, all-of}
 use Rattle.integers.specs.Differences.{byDifferences}
 use Rattle.rules.specs.Rules.{firstOf}
@@ -59,7 +59,7 @@ record Computed : Type 0 where
   of-rounds-3 : All Rounds3.rows
 
 computed : Computed
-unfolding ofInt firstOf byDifferences exactOf numerator sameExact times c g l s total terms next divided run positionPredictor positionCorrector velocityPredictor velocityCorrector olderPart roundedOf any motionOf still olderMotion presentMotion predictedMotion correctedMotion keptSamples advancedAxis openedAxis emptyAxis sameMotion inRange sizes remaindersHold samplesSmall emptyZero olderHolds pointsHold settingsHold nowhere presentPoint estimateOf predictedPoint correctedPoint pointInRange pointsAgree pointChange settledAgain awaitingAt acceptedAt openedSession closedSession countsHold samePoint settledHolds estimateBegins awaitingHolds holds settled awaiting reportedMotion reportedPoint reportedChange noPoint noChange exactPoint axisSamples openedWith openRefusal full predictRefusal agrees largestChange isLast correctRefusal openOf predictOf correctOf placesHold lessBefore cut earlierPosition earlierVelocity hasCentre nextSums backSums runOn runBack newestSums earlierMotion centreSums startedAxis heldRound sumsZero olderZero epochHolds axisStarts axesStart startHolds starting startingAxis startingSession openedRound roundOf earlierPoint everyBelow largestBelow roundInRange roundsAgree largestMove pointsFrom roundPoints noPoints givenRound startRefusal laterRound refineRefusal startOf refineOf withdrawOf withdrawRefusal
+unfolding ofInt ofBits firstOf byDifferences exactOf numerator sameExact times c g l s total terms next divided run positionPredictor positionCorrector velocityPredictor velocityCorrector olderPart roundedOf any motionOf still olderMotion presentMotion predictedMotion correctedMotion keptSamples advancedAxis openedAxis emptyAxis sameMotion inRange sizes remaindersHold samplesSmall emptyZero olderHolds pointsHold settingsHold nowhere presentPoint estimateOf predictedPoint correctedPoint pointInRange pointsAgree pointChange settledAgain awaitingAt acceptedAt openedSession closedSession countsHold samePoint settledHolds estimateBegins awaitingHolds holds settled awaiting reportedMotion reportedPoint reportedChange noPoint noChange exactPoint axisSamples openedWith openRefusal full predictRefusal agrees largestChange isLast correctRefusal openOf predictOf correctOf placesHold lessBefore cut earlierPosition earlierVelocity hasCentre nextSums backSums runOn runBack newestSums earlierMotion centreSums startedAxis heldRound sumsZero olderZero epochHolds axisStarts axesStart startHolds starting startingAxis startingSession openedRound roundOf earlierPoint everyBelow largestBelow roundInRange roundsAgree largestMove pointsFrom roundPoints noPoints givenRound startRefusal laterRound refineRefusal startOf refineOf withdrawOf withdrawRefusal
 computed =
     record {
       of-numbers = (refl, (refl, (refl, (refl, (refl, (refl, (refl, (refl, (refl, (refl, (refl, (refl, (refl, (refl, (refl, (refl, (refl, (refl, (refl, (refl, (refl, (refl, tt))))))))))))))))))))));
@@ -68,11 +68,11 @@ computed =
       of-states = (refl, (refl, (refl, (refl, (refl, (refl, (refl, (refl, (refl, (refl, (refl, (refl, (refl, (refl, (refl, (refl, tt))))))))))))))));
       of-settings = (refl, (refl, (refl, (refl, (refl, (refl, (refl, (refl, (refl, (refl, (refl, (refl, (refl, (refl, (refl, (refl, (refl, (refl, (refl, (refl, (refl, (refl, (refl, (refl, tt))))))))))))))))))))))));
       of-axes = (refl, (refl, (refl, (refl, (refl, (refl, (refl, (refl, (refl, (refl, (refl, (refl, (refl, (refl, (refl, (refl, (refl, (refl, (refl, (refl, (refl, (refl, (refl, (refl, (refl, (refl, (refl, (refl, tt))))))))))))))))))))))))))));
-      of-openings = (refl, (refl, (refl, (refl, (refl, (refl, (refl, (refl, (refl, (refl, (refl, (refl, (refl, (refl, (refl, (refl, tt))))))))))))))));
+      of-openings = (refl, (refl, (refl, (refl, (refl, (refl, (refl, (refl, (refl, (refl, (refl, (refl, (refl, (refl, (refl, (refl, (refl, tt)))))))))))))))));
       of-predictions = (refl, (refl, (refl, (refl, tt))));
-      of-corrections = (refl, (refl, (refl, (refl, (refl, (refl, (refl, (refl, (refl, (refl, (refl, (refl, (refl, (refl, (refl, (refl, (refl, tt)))))))))))))))));
-      of-firstRounds = (refl, (refl, (refl, (refl, (refl, (refl, (refl, (refl, (refl, (refl, (refl, (refl, (refl, (refl, (refl, (refl, tt))))))))))))))));
-      of-laterRounds = (refl, (refl, (refl, (refl, (refl, (refl, (refl, (refl, (refl, tt)))))))));
+      of-corrections = (refl, (refl, (refl, (refl, (refl, (refl, (refl, (refl, (refl, (refl, (refl, (refl, (refl, (refl, (refl, (refl, (refl, (refl, (refl, tt)))))))))))))))))));
+      of-firstRounds = (refl, (refl, (refl, (refl, (refl, (refl, (refl, (refl, (refl, (refl, (refl, (refl, (refl, (refl, (refl, (refl, (refl, (refl, (refl, tt)))))))))))))))))));
+      of-laterRounds = (refl, (refl, (refl, (refl, (refl, (refl, (refl, (refl, (refl, (refl, (refl, tt)))))))))));
       of-steps-3 = (refl, (refl, (refl, (refl, (refl, (refl, tt))))));
       of-steps-9 = (refl, (refl, (refl, (refl, (refl, (refl, tt))))));
       of-rounds-3 = (refl, (refl, (refl, tt)));

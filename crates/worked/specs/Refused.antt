@@ -1,9 +1,9 @@
 -- Every refusal of every call, in its order: each row breaks the rule of its number and the later ones with it. At the end of each list the call goes through.
 use Prim.Native.Nat.{ℕ}
-use mathlib.Core.Bool.{true, false}
-use mathlib.Core.List.{List, [], _∷_}
+use mathlib.Core.Bool.{Bool, true, false}
+use mathlib.Core.List.{List, [], _∷_, _++_}
 use lib.IntN.{pos}
-use lib.Ieee.{Float, nan, inf}
+use lib.Ieee.{Float, nan, inf, binary64, ofBits}
 use lib.ListN.{replicate}
 use Rattle.integers.specs.Lines.{Line, line}
 use Rattle.ticks.specs.declared.Sample.{Sample}
@@ -36,9 +36,13 @@ edge = whole (pos 4503599627370495) (minus 4503599627370496) (pos 0) (pos 0) (po
 abbrev points : ℕ → Float → Float → Float → List Float
 points zeros x y z = x ∷ y ∷ z ∷ replicate zeros (float (pos 0))
 
--- a sample too large and a NaN after it
+-- one tick too many, minus infinity and a NaN, the worst of them last
 abbrev spoiled : ℕ → List Float
-spoiled zeros = points zeros (float (pos 268435457)) (float (pos 0)) nan
+spoiled zeros = points zeros (float (pos 268435457)) (inf true) nan
+
+-- without the NaN: an infinity that is minus where s is true
+abbrev endless : Bool → ℕ → List Float
+endless s zeros = points zeros (float (pos 268435457)) (float (pos 0)) (inf s)
 
 -- ---- open
 
@@ -59,7 +63,8 @@ openings =
     ∷ opens (asks 1 0 0 8 (whole (pos 0) (pos 0) (pos 0) (pos 0) (pos 0) (pos 1099511627776)) (spoiled 0)) 6
     ∷ opens (asks 1 0 0 8 (whole (pos 0) (pos 0) (pos 0) (pos 0) (minus 1099511627777) (pos 0)) (spoiled 0)) 6
     ∷ opens (asks 1 0 0 8 edge (spoiled 0)) 4
-    ∷ opens (asks 1 0 0 8 edge (points 0 (float (pos 268435457)) (inf true) (float (pos 0)))) 4
+    ∷ opens (asks 1 0 0 8 edge (endless false 0)) 13
+    ∷ opens (asks 1 0 0 8 edge (endless true 0)) 13
     ∷ opens (asks 1 0 0 8 edge (floats (pos 0 ∷ pos 268435457 ∷ pos 0 ∷ []))) 5
     ∷ opens (asks 1 0 0 8 edge (floats (pos 0 ∷ pos 0 ∷ minus 268435457 ∷ []))) 5
     ∷ line ℕ (opening (asks 1 1048576 1048576 8 edge (floats (pos 0 ∷ pos 268435456 ∷ minus 268435456 ∷ []))) .number) 0
@@ -105,6 +110,12 @@ high = filled Awaiting 1 (tolerances 0 0) 8 5 7 calm (axis (value (pos 0) 0) (va
 abbrev still : Sample
 still = sample (pos 0) (pos 0) (pos 0)
 
+abbrev infinity : Float
+infinity = ofBits binary64 0x7FF0_0000_0000_0000
+
+abbrev minusInfinity : Float
+minusInfinity = ofBits binary64 0xFFF0_0000_0000_0000
+
 abbrev corrects : Session → Sample → ℕ → Line
 corrects s a number = line Shown (shown s (correct a)) (refused number s)
 
@@ -117,9 +128,12 @@ seven =
 
 abbrev pub corrections : List Line
 corrections =
-    corrects (settledWith 0 0 5) (record { x = float (pos 268435457); y = float (pos 0); z = nan }) 7
-    ∷ corrects high (record { x = float (pos 268435457); y = float (pos 0); z = nan }) 4
-    ∷ corrects high (record { x = float (pos 268435457); y = inf false; z = float (pos 0) }) 4
+    corrects (settledWith 0 0 5) (record { x = float (pos 268435457); y = inf false; z = nan }) 7
+    ∷ corrects high (record { x = float (pos 268435457); y = inf false; z = nan }) 4
+    -- by the bits: a NaN with the sign bit after both infinities, and each of these beside a float that is too large
+    ∷ corrects high (record { x = minusInfinity; y = infinity; z = ofBits binary64 0xFFF0_0000_0000_0001 }) 4
+    ∷ corrects high (record { x = float (pos 268435457); y = minusInfinity; z = float (pos 0) }) 13
+    ∷ corrects high (record { x = float (minus 268435457); y = float (pos 0); z = infinity }) 13
     ∷ corrects high (sample (pos 268435457) (pos 12) (pos 0)) 5
     ∷ corrects high (sample (pos 0) (pos 12) (minus 268435457)) 5
     ∷ corrects high (sample (pos 0) (pos 12) (pos 0)) 6
@@ -148,6 +162,10 @@ starting r number = line Shown (starts r) (refusedRound number closed)
 abbrev out : WholePoint
 out = whole (pos 0) (pos 4503599627370495) (pos 0) (pos 0) (pos 1) (pos 0)
 
+-- nine floats: the first and the last, and between them only such as are too large
+abbrev lastly : Float → Float → List Float
+lastly first last = first ∷ replicate 7 (float (pos 268435457)) ++ last ∷ []
+
 abbrev pub firstRounds : List Line
 firstRounds =
     starting (asks 0 1048577 0 9 far (nan ∷ [])) 1
@@ -163,6 +181,9 @@ firstRounds =
     ∷ starting (asks 3 0 0 9 far (spoiled 6)) 3
     ∷ starting (asks 3 0 0 8 far (spoiled 6)) 6
     ∷ starting (asks 3 0 0 8 out (spoiled 6)) 4
+    ∷ starting (asks 3 0 0 8 out (lastly (inf false) nan)) 4
+    ∷ starting (asks 3 0 0 8 out (endless false 6)) 13
+    ∷ starting (asks 3 0 0 8 out (lastly (float (pos 0)) (inf true))) 13
     ∷ starting (asks 3 0 0 8 out (points 6 (float (pos 0)) (float (minus 268435457)) (float (pos 0)))) 5
     ∷ starting (asks 3 0 0 8 out (floats (replicate 9 (pos 0)))) 6
     ∷ line ℕ (starts (asks 3 1048576 1048576 8 origin (floats (replicate 9 (pos 0)))) .number) 0
@@ -190,6 +211,8 @@ laterRounds =
     refines (between 8) (spoiled 5) 7
     ∷ refines (between 7) (spoiled 5) 2
     ∷ refines (between 7) (spoiled 6) 4
+    ∷ refines (between 7) (endless false 6) 13
+    ∷ refines (between 7) (endless true 6) 13
     ∷ refines (between 7) (points 6 (float (pos 0)) (float (pos 12)) (float (minus 268435457))) 5
     ∷ refines (between 7) (floats (replicate 9 (pos 12))) 6
     ∷ line Shown (shown (between 7) (refine other)) (refusedRound 8 closed)

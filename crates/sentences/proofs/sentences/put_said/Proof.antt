@@ -36,14 +36,21 @@ unfolding said ascii
 returns-4 c =
     let m = c .before .before .before .before .before in
     let a = m .before .before .args in
-    as-said (a .s) (a .r) (m .match .keys4) (last (c .before .before .put-word .ensures))
+    as-said (a .s) (a .r) (m .match .keys4) (c .before .before .put-named4 .ensures)
 
 returns-5 : tie.Need-returns-5
 unfolding said ascii
 returns-5 c =
     let m = c .before .before .before .before .before in
     let a = m .before .before .args in
-    as-said (a .s) (a .r) (m .match .keys5) (c .before .before .put-over .ensures)
+    as-said (a .s) (a .r) (m .match .keys5) (last (c .before .before .put-word .ensures))
+
+returns-6 : tie.Need-returns-6
+unfolding said ascii
+returns-6 c =
+    let m = c .before .before .before .before .before in
+    let a = m .before .before .args in
+    as-said (a .s) (a .r) (m .match .keys6) (c .before .before .put-over .ensures)
 
 put-over-requires-2 : tie.Need-put-over-requires-2
 put-over-requires-2 c κs =
@@ -51,8 +58,8 @@ put-over-requires-2 c κs =
     let a = s .args in
     (s .pre .0, rw (← (another (a .s) (a .r) (a .number) (c .before .before .match .rest))) at (s .pre .1))
 
-returns-6 : tie.Need-returns-6
-returns-6 c =
+returns-7 : tie.Need-returns-7
+returns-7 c =
     let m = c .before .before .before .before .before in
     let a = m .before .before .args in
     retold (ap flatten (another (a .s) (a .r) (a .number) (m .match .rest))) (c .before .before .put-over2 .ensures)
@@ -69,9 +76,11 @@ put-said-spec =
     (λ c. search needs)
     (λ c κs. rw (c .before .before .match .keys3) at (c .before .before .before .before .pre .1))
     (λ c. search needs)
-    (λ c κs. let room = rw (c .before .before .match .keys4) at (c .before .before .before .before .pre .1) in omega (arith, room .fits))
+    (λ c κs. rw (c .before .before .match .keys4) at (c .before .before .before .before .pre .1))
     (λ c. search needs)
-    (λ c κs. (c .before .before .before .before .pre .0, rw (c .before .before .match .keys5) at (c .before .before .before .before .pre .1)))
+    (λ c κs. let room = rw (c .before .before .match .keys5) at (c .before .before .before .before .pre .1) in omega (arith, room .fits))
+    (λ c. search needs)
+    (λ c κs. (c .before .before .before .before .pre .0, rw (c .before .before .match .keys6) at (c .before .before .before .before .pre .1)))
     (λ c. search needs)
     put-over-requires-2
     (λ c. search needs)
@@ -85,4 +94,6 @@ put-said-spec =
     (λ c. search needs)
     returns-5
     (λ c. search needs)
-    returns-6)
+    returns-6
+    (λ c. search needs)
+    returns-7)
