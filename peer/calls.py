@@ -1,10 +1,10 @@
 """Single calls of a script, drawn to fit the record or not to."""
-from asking import *
+from saving import *
 
 SIZES_WITH_CENTRE = (3, 5, 7, 9)
 
 
-class Calls(Asking):
+class Calls(Saving):
     """A script with calls that are drawn one by one."""
 
     # Openings and first rounds

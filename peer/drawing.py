@@ -55,15 +55,32 @@ class Script:
         """Makes a call and takes note of what it leaves; the answer, none for fill."""
         self.send(line)
         self.answer = None if line.startswith('fill') else Answer(self.read())
-        self.record_line = self.read()
-        self.state = int(self.record_line[7:8])
+        self.read_record()
         self.note(line)
         return self.answer
+
+    def read_record(self):
+        self.record_line = self.read()
+        self.state = int(self.record_line[7:8])
 
     def ask(self, floats):
         """Asks why a correction by the sample would be answered as it would be; the record stays."""
         self.send(why_line(floats))
         return Reason(self.read())
+
+    def save(self):
+        """The image of the session, as digits; the record stays."""
+        self.send('save')
+        return saved_digits(self.read())
+
+    def load(self, digits, present=None):
+        """Loads the bytes, which hold a session with that present point if known; whether they were taken."""
+        self.send(load_line(digits))
+        taken = loaded_number(self.read()) == 0
+        self.read_record()
+        if taken:
+            self.present = present
+        return taken
 
     def note(self, line):
         if self.answer is None:

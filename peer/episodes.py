@@ -1,10 +1,10 @@
 """Draws scripts of calls from episodes, each of which leads to some corner of the rules."""
-from faults import *
+from loaded import *
 from spoiling import spoilt
 
 # One script in so many steps sessions; the others end soon by a line that is no call.
 SESSION_EVERY = 8
-S = Faults
+S = Loaded
 EPISODES = [S.session, S.session, S.session, S.every_number_of_points, S.floats,
             S.refused_openings, S.far_out, S.nearly_right, S.nearly_right, S.moved_to_bounds,
             S.moved_to_bounds, S.estimate_at_bounds, S.at_tolerance, S.at_tolerance,
@@ -14,7 +14,8 @@ EPISODES = [S.session, S.session, S.session, S.every_number_of_points, S.floats,
             S.nearly_starting, S.nearly_starting, S.untrue_held, S.untrue_held, S.untrue_held,
             S.held_while_starting, S.held_before_accepted, S.first_at_tolerance,
             S.several_over_tolerance, S.out_at_some_values, S.out_at_some_values,
-            S.several_floats_at_fault, S.floats_at_fault, S.floats_at_fault]
+            S.several_floats_at_fault, S.floats_at_fault, S.floats_at_fault,
+            S.gone_back, S.loaded_in_every_state, S.damaged_images, S.images_nearly_right]
 
 
 def session_script(script, index):
@@ -37,19 +38,16 @@ def spoilt_script(script, index):
     rng = script.rng
     lines = [open_line(*script.opening()), correct_line(script.sample()),
              start_line(*script.centred()), refine_line(script.sample() * 3), why_line(script.sample()),
-             fill_line(script.random_record(rng.choice((SETTLED, AWAITING, STARTING))))]
+             fill_line(script.random_record(rng.choice((SETTLED, AWAITING, STARTING)))),
+             load_line(script.some_image()[0])]
     for _ in range(rng.randrange(3)):
-        line = rng.choice(('predict', 'withdraw', *lines))
-        if line.startswith('why'):
-            script.ask(line.split()[1:])
-        else:
-            script.call(line)
+        script.make(rng.choice(('predict', 'withdraw', 'save', *lines)))
     return script.end(spoilt(lines, index, rng))
 
 
 def draw(peer, seed, index):
     """The script of that index, what the peer writes for it, and what the script has met."""
-    script = Faults(peer, f'{seed}/{index}')
+    script = Loaded(peer, f'{seed}/{index}')
     turn, kind = divmod(index, SESSION_EVERY)
     if kind == 0:
         return session_script(script, turn)

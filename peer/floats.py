@@ -44,7 +44,7 @@ def infinity_kind(word):
 def count_faults(met, script, written):
     """Counts the calls of a script that are answered 4 or 13, by the floats that they are for."""
     for line, answers in answered_lines(script, written):
-        call, number, _ = answers[0].decode().split(' ', 2)
+        call, number = answers[0].decode().split()[:2]
         if call in TAKING and int(number) in NUMBERS.values():
             count_call(met, call, int(number), line.decode().split()[TAKING[call]:])
 

@@ -11,6 +11,8 @@
  *        S1 whole, S1 part, S2 whole, S2 part,
  *        held sum of positions whole, part, that of velocities whole, part,
  *        nine samples newest first, estimate position whole, part, velocity whole, part
+ *   save
+ *   load BYTES                                            1 to 2045, two digits each
  * TOLERANCES are two words, for position and for velocity.
  * Words stand apart by exactly one space, none before the first or after the last. A line ends
  * with a newline and has at most 4,096 bytes before it; what follows the last newline is no call.
@@ -25,8 +27,10 @@
  *   of another call: the point x, vx, y, vy, z, vz, then the changes
  * where the changes are two values, the largest of position and the largest of velocity, and
  *   of why: VALUE, its change, its TOLERANCE, GIVEN and a difference for each axis
- * Behind each answer but that of why the record is written. */
-#include "rules.h"
+ * Behind each answer but those of why and of save the record is written. The answer of save is its
+ * name, 0 and the 656 bytes of the record's image; that of load is its name and 0 or, for bytes that
+ * are no image, 14, and the record is then as it was. */
+#include "host.h"
 
 #include <inttypes.h>
 #include <stdio.h>
@@ -35,6 +39,7 @@
 
 #define LINE_MOST 4096
 #define FLOATS_MOST 64
+#define BYTES_MOST (LINE_MOST / 2)
 
 /* Reading words */
 
@@ -90,20 +95,38 @@ static int64_t signed_word(struct text *t)
     return (int64_t)-size;
 }
 
-static double float_word(struct text *t)
+/* So many digits 0 to 9 and a to f, the highest first. */
+static uint64_t hex_digits(struct text *t, int count)
 {
     static const char hex[] = "0123456789abcdef";
     uint64_t bits = 0;
-    double value;
-    t->good = t->good && next_is(t, " ") && t->end - t->at >= 16;
-    for (int i = 0; t->good && i < 16; i++) {
+    t->good = t->good && t->end - t->at >= count;
+    for (int i = 0; t->good && i < count; i++) {
         const char *digit = memchr(hex, *t->at++, 16);
         t->good = digit != NULL;
         if (t->good)
             bits = bits << 4 | (uint64_t)(digit - hex);
     }
+    return bits;
+}
+
+static double float_word(struct text *t)
+{
+    double value;
+    t->good = t->good && next_is(t, " ");
+    uint64_t bits = hex_digits(t, 16);
     memcpy(&value, &bits, sizeof value);
     return value;
+}
+
+/* The bytes up to the end of the line, at least one; how many. */
+static size_t byte_word(struct text *t, uint8_t bytes[BYTES_MOST])
+{
+    size_t length = 0;
+    t->good = t->good && next_is(t, " ") && t->at < t->end;
+    while (t->good && t->at < t->end)
+        bytes[length++] = (uint8_t)hex_digits(t, 2);
+    return length;
 }
 
 /* The floats up to the end of the line; how many. */
@@ -324,11 +347,40 @@ static bool do_fill(struct record *r, struct text *t)
     return true;
 }
 
+static bool do_save(const struct record *r, struct text *t)
+{
+    uint8_t image[IMAGE_LENGTH];
+    if (!read_whole(t))
+        return false;
+    save_image(r, image);
+    printf("save 0 ");
+    for (int i = 0; i < IMAGE_LENGTH; i++)
+        printf("%02x", image[i]);
+    putchar('\n');
+    return true;
+}
+
+static bool do_load(struct record *r, struct text *t)
+{
+    uint8_t bytes[BYTES_MOST];
+    struct record loaded;
+    size_t length = byte_word(t, bytes);
+    if (!read_whole(t))
+        return false;
+    bool good = read_image(bytes, length, &loaded);
+    if (good)
+        *r = loaded;
+    printf("load %d\n", good ? 0 : 14);
+    return true;
+}
+
 static bool do_line(struct record *r, struct text t)
 {
     bool done = false;
     if (next_is(&t, "why"))
         return do_why(r, &t);
+    if (next_is(&t, "save"))
+        return do_save(r, &t);
     if (next_is(&t, "open"))
         done = do_open(r, &t);
     else if (next_is(&t, "predict"))
@@ -343,6 +395,8 @@ static bool do_line(struct record *r, struct text t)
         done = do_refine(r, &t);
     else if (next_is(&t, "fill"))
         done = do_fill(r, &t);
+    else if (next_is(&t, "load"))
+        done = do_load(r, &t);
     if (done)
         write_record(r);
     return done;

@@ -10,7 +10,7 @@ HERE = pathlib.Path(__file__).resolve().parent
 TOP = HERE.parent
 OUT = TOP / 'target' / 'peer'
 REPLAY = TOP / 'programs' / 'replay'
-SOURCES = ('rules.h', 'shared.h', 'rules.c', 'rounds.c', 'reasons.c', 'peer.c')
+SOURCES = ('rules.h', 'shared.h', 'host.h', 'rules.c', 'rounds.c', 'reasons.c', 'host.c', 'peer.c')
 
 PARTS = 159667200
 AXES = range(3)
@@ -105,6 +105,20 @@ def refine_line(floats):
 
 def fill_line(record):
     return ' '.join(map(str, ['fill', *record]))
+
+
+def load_line(digits):
+    return f'load {digits}'
+
+
+def saved_digits(line):
+    """The image of an answer to save, as its digits."""
+    return line.split()[2].decode()
+
+
+def loaded_number(line):
+    """The number of an answer to load."""
+    return int(line.split()[1])
 
 
 def record_fields(line):

@@ -180,7 +180,7 @@ def answered_lines(script, written):
         answers = list(itertools.islice(written, 1))
         if not answers or answers[0].startswith(b'line'):
             return
-        if not line.startswith((b'why', b'fill')):
+        if not line.startswith((b'why', b'fill', b'save')):
             answers += itertools.islice(written, 1)
         yield line, answers
 
@@ -191,6 +191,8 @@ def held_to_corrections(script, written):
     for line, answers in answered_lines(script, written):
         if line.startswith(b'why'):
             asked = line, answers[0]
+            continue
+        if line.startswith(b'save'):
             continue
         if asked and line == asked[0].replace(b'why', b'correct'):
             seen += 1

@@ -73,7 +73,7 @@ def sentences(peer, script):
             text = sentence(Reason(answer), record)
             if text:
                 said.append((number, text))
-        elif not line.startswith(b'why'):
+        elif not line.startswith((b'why', b'save')):
             record_line = answer if answer.startswith(b'record') else next(written)
             record = record_fields(record_line)
     return said, None

@@ -1,5 +1,5 @@
 """Lines that are no calls, or hardly are, made from lines that are."""
-from program import RECORD_LENGTH, bits, fill_line, open_line, refine_line, start_line, why_line
+from program import RECORD_LENGTH, bits, fill_line, load_line, open_line, refine_line, start_line, why_line
 
 U64, I64, U32 = 2 ** 64 - 1, 2 ** 63 - 1, 2 ** 32 - 1
 # What takes the place of a number, and of a float.
@@ -10,12 +10,15 @@ FLOATS = ['', '0', '0' * 15, '0' * 17, 'F' * 16, 'g' * 16, '3fF' + '0' * 13, '-'
 LINES = ['', ' ', 'predict ', ' predict', 'predict  ', 'Predict', 'predictpredict', 'predict 0',
          'predict\r', 'predict\t', 'withdrawn', 'withdraw 1', 'withdra', 'fil', 'fill', 'correct',
          'open', 'close', '#', '\0', 'predict\0', 'start', 'start ', 'refine', 'refine ', 'refined',
-         'refine 0', 'why', 'why ', 'wh', 'whys', 'why 0',
+         'refine 0', 'why', 'why ', 'wh', 'whys', 'why 0', 'save ', 'save 0', 'saved', 'sav', 'saves', 'load', 'load ',
+         'loa', 'loaded', 'load00', 'load  00', 'load 00 ', 'load 00 00', 'load 0', 'load 000', 'load 0g', 'load g0', 'load 0A',
+         'load 0x00', 'load -0', 'load 00', 'load 00\r',
          *(line(1, (0, 0), 1, [0] * 3, [0] * 3, [bits(0.0)] * count)
            for count in (64, 65, 66) for line in (open_line, start_line)),
          *(fill_line([state] + [0] * (RECORD_LENGTH - 1)) for state in (3, 4)),
          *(refine_line([bits(0.0)] * count) for count in (64, 65, 66)),
          *(why_line([bits(0.0)] * count) for count in (2, 3, 4)),
+         *(load_line('0' * count) for count in (4090, 4091, 4092, 70000)),
          *('predict'.ljust(length) for length in (4095, 4096, 4097, 70000))]
 
 

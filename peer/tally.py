@@ -3,6 +3,7 @@ import collections
 
 from program import *
 from reasons import ASKED, STATES, count
+from saved import LOAD, SAVE, TAKEN, count_load, count_save
 
 # The numbers that each call can answer.
 NUMBERS = {'open': (0, 1, 2, 3, 4, 5, 6, 13), 'predict': (0, 6, 7, 9),
@@ -66,9 +67,16 @@ def tally(written):
             met[NO_CALL] += 1
         elif head == ASKED:
             count(met, Reason(line), causes.record)
+        elif head == SAVE:
+            count_save(met, line, causes.record)
+        elif head == LOAD:
+            call, number = head, loaded_number(line)
         elif head == 'record':
-            causes.record = record_fields(line)
-            if call is None:
+            before, causes.record = causes.record, record_fields(line)
+            if call == LOAD:
+                count_load(met, number, before, causes.record)
+                causes.points = None if number == TAKEN else causes.points
+            elif call is None:
                 met['fill'] += 1
                 causes.points = None
             elif number == 7:
@@ -89,7 +97,7 @@ def tally(written):
 
 
 def calls(met):
-    return sum(met[call] for call in (*NUMBERS, 'fill', ASKED))
+    return sum(met[call] for call in (*NUMBERS, 'fill', ASKED, SAVE, LOAD))
 
 
 def print_table(met):
@@ -98,8 +106,8 @@ def print_table(met):
         print(f'{call:10}{met[call]:>9}' + ''.join(
             f'{met[call, n] if n in numbers else "":>9}' for n in COLUMNS).rstrip())
     print(f'{"fill":10}{met["fill"]:>9}')
-    print(f'{ASKED:10}{met[ASKED]:>9}')
-    print(f'{NO_CALL:10}{met[NO_CALL]:>9}')
+    for call in (ASKED, SAVE, LOAD, NO_CALL):
+        print(f'{call:10}{met[call]:>9}')
     for call, kinds in KINDS_OF.items():
         print(f'{call} answers: ' + ', '.join(f'{kind} {met[call, kind]}' for kind in kinds))
     for call in COMPARING:

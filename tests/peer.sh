@@ -9,4 +9,4 @@ if [ ! -x target/bin/replay ]; then
     echo "tests/peer.sh: no program target/bin/replay: run 'rt check' first" >&2
     exit 2
 fi
-peer/figures --replay "$program" && peer/marathon && peer/examples && peer/scripts && peer/worked && peer/check --calls 200000
+peer/figures --replay "$program" && peer/marathon && peer/examples && peer/scripts && peer/worked && peer/check --calls 200000 && peer/check_saved

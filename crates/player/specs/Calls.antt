@@ -1,7 +1,10 @@
--- What the call of a line with floats gives: an opening, a first round or a later one.
+-- What the call of a line gives: an opening, a first round or a later one by its floats, and a loading by its bytes.
+use mathlib.Core.Bool.{cond}
+use lib.Dec.{eqb}
 use lib.ListN.{take}
 use Rattle.script.specs.declared.calls.Floats.{Floats}
 use Rattle.script.specs.declared.calls.OpenCall.{OpenCall}
+use Rattle.script.specs.declared.calls.LoadCall.{LoadCall}
 use Rattle.session.specs.declared.Session.{Session}
 use Rattle.session.specs.Requests.{Request, request}
 use Rattle.steps.specs.declared.AfterOpen.{AfterOpen}
@@ -24,3 +27,7 @@ startedBy call = startOf (askedBy call)
 
 abbrev pub refinedBy : Session → Floats → AfterRound
 refinedBy s floats = refineOf s (take (floats .count) (floats .values))
+
+-- the session that is loaded, and with 14 the one that was there
+unfoldable pub loadedBy : Session → LoadCall → Session
+loadedBy s call = cond (eqb (call .number) 0) (call .session) s

@@ -167,6 +167,38 @@ fn answer_why(out: &mut [u8], at: usize, s: Session, line: &[u8]) -> Answered
     }
 }
 
+// Saving changes nothing, and no record follows its answer.
+fn answer_save(out: &mut [u8], at: usize, s: Session) -> Answered
+    requires { ⌜ at + 3411 ≤ length (now out) ⌝ }
+    ensures { λ r. ⌜ r .end ≤ at + 3411 ⌝ }
+{
+    let end = script::put_save(out, at, s);
+    Answered {
+        session: s,
+        end,
+        call: true,
+        recorded: false,
+    }
+}
+
+fn answer_load(out: &mut [u8], at: usize, s: Session, line: &[u8]) -> Answered
+    requires { ⌜ at + 3411 ≤ length (now out) ⌝ }
+    ensures { λ r. ⌜ r .end ≤ at + 3411 ⌝ }
+{
+    let read = script::read_load(line, 4);
+    if read.end != line.len() {
+        return no_call(s, at);
+    }
+    let end = script::put_load(out, at, read.number);
+    let session = calls::load(s, read);
+    Answered {
+        session,
+        end,
+        call: true,
+        recorded: true,
+    }
+}
+
 // A record that is filled in is not answered.
 fn filled(at: usize, line: &[u8]) -> Answered
     ensures { λ r. ⌜ r .end ≤ at + 3411 ⌝ }
@@ -195,6 +227,8 @@ pub(crate) fn answer_line(out: &mut [u8], at: usize, s: Session, line: &[u8]) ->
         Name::Start => answer_start(out, at, s, line),
         Name::Refine => answer_refine(out, at, s, line),
         Name::Why => answer_why(out, at, s, line),
+        Name::Save => answer_save(out, at, s),
+        Name::Load => answer_load(out, at, s, line),
         Name::Nothing => no_call(s, at),
     }
 }

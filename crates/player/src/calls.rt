@@ -1,12 +1,13 @@
-// The calls of lines with floats: an opening, a first round and a later one.
+// The calls of lines with floats, an opening, a first round and a later one, and of a line with bytes, a loading.
 use epoch_steps::AfterRound;
 use script::Floats;
+use script::LoadCall;
 use script::OpenCall;
 use session::Session;
 use steps::AfterOpen;
 ghost use mathlib.Core.Path.{_≡_};
 ghost use Prim.Native.Nat.{_≤_};
-ghost use Rattle.player.specs.Calls.{openedBy, startedBy, refinedBy};
+ghost use Rattle.player.specs.Calls.{openedBy, startedBy, refinedBy, loadedBy};
 
 pub(crate) fn open(s: Session, call: OpenCall) -> AfterOpen
     requires { ⌜ call .floats .count ≤ 64 ⌝ }
@@ -55,4 +56,11 @@ pub(crate) fn refine(s: Session, floats: Floats) -> AfterRound
     let values = floats.values;
     let count = floats.count;
     stepper::owned::refine(s, &values[..count])
+}
+
+pub(crate) fn load(s: Session, call: LoadCall) -> Session
+    ensures { λ r. ⌜ r ≡ loadedBy s call ⌝ }
+{
+    let session = call.session;
+    if call.number == 0 { session } else { s }
 }

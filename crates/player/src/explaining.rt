@@ -31,6 +31,8 @@ fn explain_call(out: &mut [u8], at: usize, s: Session, line: &[u8], number: u64)
         Name::Start => at,
         Name::Refine => at,
         Name::Why => at,
+        Name::Save => at,
+        Name::Load => at,
         Name::Nothing => at,
     }
 }

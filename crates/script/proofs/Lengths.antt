@@ -1,6 +1,6 @@
 -- How long the lines are at most, whatever they say. A natural has at most 20 digits, a whole one character more, a float 16.
 use Prim.Native.Nat.{ℕ, zero, suc, _+_, _*_, _/_, _%_, _≤_}
-use mathlib.Core.Path.{_≡_}
+use mathlib.Core.Path.{_≡_, refl}
 use mathlib.Core.Bool.{Bool, true, false}
 use mathlib.Core.List.{List, [], _∷_, _++_, flatten, map}
 use native.Mathlib.Omega.{arith}
@@ -20,6 +20,8 @@ use Rattle.epoch_steps.specs.declared.RoundValues.{RoundValues}
 use Rattle.reasons.specs.declared.Reason.{Reason}
 use Rattle.reasons.specs.declared.Differences.{Differences}
 use Rattle.reasons.specs.declared.Explanation.{Explanation}
+use Rattle.image.specs.Standing.{standing, imageOf}
+use Rattle.image.specs.Lengths.{length-recordBytes}
 use Rattle.text.specs.Numbers.{ascii, digit, digits, decimal, signed, numbers, hex}
 use Rattle.text.specs.Digits.{length-hexDigits}
 use Rattle.text.specs.Places.{total}
@@ -27,6 +29,8 @@ use Rattle.text.specs.Pieces.{length-flatten}
 use Rattle.script.specs.Lines.{natural, two, integer, exactly, value, motionValues, pointValues, answerValues, answerLine}
 use Rattle.script.specs.Lines.{roundValues, pointText, ninePoints, roundLine}
 use Rattle.script.specs.Lines.{reasonWords, flagOf, differenceWords, whyLine}
+use Rattle.script.specs.Bytes.{byteDigits, digitsOf}
+use Rattle.script.specs.Lines.{saveLine, loadLine}
 use Rattle.script.specs.Lines.{motionWords, axisWords, numberOf, settingsWords, axesWords, recordLine, noCallLine}
 
 -- ---- words
@@ -132,6 +136,21 @@ differences-short d =
 pub why-short : (e : Explanation) → total (whyLine e) ≤ 235
 unfolding whyLine ascii
 why-short e = omega (arith, two-short (e .number) (e .kind), reason-short (e .reason), differences-short (e .differences))
+
+-- ---- saving and loading
+
+digits-long : (bytes : List ℕ) → length (flatten (map byteDigits bytes)) ≡ 2 * length bytes
+unfolding flatten
+digits-long [] = refl
+digits-long (b ∷ bytes) = omega (arith, length-append (byteDigits b) (flatten (map byteDigits bytes)), length-hexDigits 2 b, digits-long bytes)
+
+pub save-short : (s : Session) → total (saveLine s) ≤ 1320
+unfolding saveLine ascii digitsOf imageOf
+save-short s = omega (arith, digits-long (imageOf s), length-recordBytes (standing s))
+
+pub load-short : (n : ℕ) → total (loadLine n) ≤ 26
+unfolding loadLine ascii
+load-short n = omega (arith, natural-short n)
 
 -- ---- a record
 

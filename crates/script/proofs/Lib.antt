@@ -1,7 +1,9 @@
--- Laws over the crate's definitions: words by what the tests say (`Spaced`), names (`Names`), floats up to the end of a line (`Series`),
--- the patterns of numbers (`Patterns`), and how long the lines are (`Lengths`).
+-- Laws over the crate's definitions: words by what the tests say (`Spaced`), names (`Names`), pieces up to the end of a line (`Series`),
+-- floats (`Floats`), bytes as pairs of digits (`Pairs`), what they hold (`Saved`), and how long the lines are (`Lengths`).
 mod Spaced
 mod Names
-pub mod Series
-mod Patterns
+mod Series
+pub mod Floats
+mod Pairs
+mod Saved
 pub mod Lengths

@@ -11,8 +11,8 @@ use lib.ListN.{length, drop, getD, drop-of-length-le}
 use lib.Seq.{drop-cons}
 use Rattle.integers.specs.Tests.{_and_}
 use Rattle.text.specs.Numbers.{ascii}
-use Rattle.script.specs.declared.calls.Name.the-variants.{Open, Predict, Correct, Withdraw, Fill, Start, Refine, Why, Nothing}
-use Rattle.script.specs.Calls.{beginsWith, isWord, nameOf}
+use Rattle.script.specs.declared.calls.Name.the-variants.{Open, Predict, Correct, Withdraw, Fill, Start, Refine, Why, Save, Load, Nothing}
+use Rattle.script.specs.Calls.{beginsWith, isWord, bareName, nameOf}
 
 by-byte : (t : Bool) (u : Bool) → u ≡ false → (t and u) ≡ false
 by-byte true u e = e
@@ -48,6 +48,27 @@ module _ (line word : List ℕ) where
   pub same-length : length line ≡ length word → beginsWith line word ≡ isWord line word
   unfolding isWord
   same-length e = rw (eq-eqb (length line) (length word) e)
+
+-- ---- a name that is the whole line
+
+module _ (line : List ℕ) where
+  pub a-predict : isWord line (ascii "predict") ≡ true → Predict ≡ bareName line
+  unfolding bareName
+  a-predict e = rw e
+
+  module _ (a : isWord line (ascii "predict") ≡ false) where
+    pub a-withdraw : isWord line (ascii "withdraw") ≡ true → Withdraw ≡ bareName line
+    unfolding bareName
+    a-withdraw e = rw (a, e)
+
+    module _ (b : isWord line (ascii "withdraw") ≡ false) where
+      pub a-save : isWord line (ascii "save") ≡ true → Save ≡ bareName line
+      unfolding bareName
+      a-save e = rw (a, b, e)
+
+      pub no-name : isWord line (ascii "save") ≡ false → Nothing ≡ bareName line
+      unfolding bareName
+      no-name e = rw (a, b, e)
 
 -- ---- the name
 
@@ -87,15 +108,10 @@ module _ (line : List ℕ) where
               a-why e = rw (a, b, c, d, f, g, e)
 
               module _ (h : beginsWith line (ascii "why") ≡ false) where
-                pub a-predict : isWord line (ascii "predict") ≡ true → Predict ≡ nameOf line
+                pub a-load : beginsWith line (ascii "load") ≡ true → Load ≡ nameOf line
                 unfolding nameOf
-                a-predict e = rw (a, b, c, d, f, g, h, e)
+                a-load e = rw (a, b, c, d, f, g, h, e)
 
-                module _ (k : isWord line (ascii "predict") ≡ false) where
-                  pub a-withdraw : isWord line (ascii "withdraw") ≡ true → Withdraw ≡ nameOf line
-                  unfolding nameOf
-                  a-withdraw e = rw (a, b, c, d, f, g, h, k, e)
-
-                  pub no-name : isWord line (ascii "withdraw") ≡ false → Nothing ≡ nameOf line
-                  unfolding nameOf
-                  no-name e = rw (a, b, c, d, f, g, h, k, e)
+                pub bare : beginsWith line (ascii "load") ≡ false → bareName line ≡ nameOf line
+                unfolding nameOf
+                bare e = rw (a, b, c, d, f, g, h, e)

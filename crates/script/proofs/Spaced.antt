@@ -20,7 +20,7 @@ held f e = toZ-ofZ f ∙ e
 
 -- ---- the space
 
-past-the-end : (line : List ℕ) (at : ℕ) → length line ≤ at → getD line at 0 ≡ 0
+pub past-the-end : (line : List ℕ) (at : ℕ) → length line ≤ at → getD line at 0 ≡ 0
 past-the-end [] at h = refl
 past-the-end (b ∷ line) zero h = absurd (omega arith)
 past-the-end (b ∷ line) (suc at) h = past-the-end line at (omega arith)

@@ -1,19 +1,23 @@
 -- The call that a line makes: its name, and the words that follow it. Definitions only.
-use Prim.Native.Nat.{ℕ, zero, suc, _-_}
+use Prim.Native.Nat.{ℕ}
 use mathlib.Core.Bool.{Bool, true, false, cond}
-use mathlib.Core.List.{List, [], _∷_, _++_}
+use mathlib.Core.List.{List, [], _∷_}
 use lib.Dec.{ltb, eqb}
 use lib.Ieee.{Float, binary64, ofBits}
-use lib.ListN.{length, replicate}
+use lib.ListN.{length}
+use Rattle.image.specs.Reading.{readOf}
 use Rattle.text.specs.Numbers.{ascii}
 use Rattle.integers.specs.Tests.{_and_}
 use Rattle.script.specs.declared.calls.Name.{Name}
-use Rattle.script.specs.declared.calls.Name.the-variants.{Open, Predict, Correct, Withdraw, Fill, Start, Refine, Why, Nothing}
+use Rattle.script.specs.declared.calls.Name.the-variants.{Open, Predict, Correct, Withdraw, Fill, Start, Refine, Why, Save, Load, Nothing}
 use Rattle.script.specs.declared.calls.Settings.{Settings}
 use Rattle.script.specs.declared.calls.Floats.{Floats}
 use Rattle.script.specs.declared.calls.OpenCall.{OpenCall}
 use Rattle.script.specs.declared.calls.ReadSample.{ReadSample}
-use Rattle.script.specs.Words.{naturalWord, bitsWord}
+use Rattle.script.specs.declared.calls.LoadCall.{LoadCall}
+use Rattle.script.specs.Words.{pastSpace, naturalWord, bitsWord}
+use Rattle.script.specs.Series.{seriesIn, seriesEnd, arrayOf}
+use Rattle.script.specs.Bytes.{bytesIn, pastBytes}
 use Rattle.script.specs.Records.{threeAt, tolerancesAt}
 
 -- ---- the name
@@ -31,6 +35,14 @@ isWord line word = eqb (length line) (length word) and beginsWith line word
 abbrev longest : ℕ
 longest = 4096
 
+-- a call that carries nothing
+unfoldable pub bareName : List ℕ → Name
+bareName line =
+    cond (isWord line (ascii "predict")) Predict
+    (cond (isWord line (ascii "withdraw")) Withdraw
+    (cond (isWord line (ascii "save")) Save
+    Nothing))
+
 unfoldable pub nameOf : List ℕ → Name
 nameOf line =
     cond (ltb longest (length line)) Nothing
@@ -40,39 +52,29 @@ nameOf line =
     (cond (beginsWith line (ascii "start")) Start
     (cond (beginsWith line (ascii "refine")) Refine
     (cond (beginsWith line (ascii "why")) Why
-    (cond (isWord line (ascii "predict")) Predict
-    (cond (isWord line (ascii "withdraw")) Withdraw
-    Nothing))))))))
+    (cond (beginsWith line (ascii "load")) Load
+    (bareName line))))))))
 
 -- ---- floats, up to the end of the line
-
--- the floats from a place on, so many at most
-unfoldable pub floatsIn : ℕ → List ℕ → ℕ → List Float
-floatsIn zero line at = []
-floatsIn (suc most) line at =
-    elim (eqb at (length line)) as (λ _. List Float) [
-      | true ↦ []
-      | false ↦ ofBits binary64 (bitsWord line at .value) ∷ floatsIn most line (bitsWord line at .end)
-    ]
-
--- the place past them
-unfoldable pub floatsEnd : ℕ → List ℕ → ℕ → ℕ
-floatsEnd zero line at = at
-floatsEnd (suc most) line at =
-    elim (eqb at (length line)) as (λ _. ℕ) [ true ↦ at | false ↦ floatsEnd most line (bitsWord line at .end) ]
 
 -- the most floats of a line
 abbrev pub mostFloats : ℕ
 mostFloats = 64
 
+abbrev pub floatAt : List ℕ → ℕ → Float
+floatAt line at = ofBits binary64 (bitsWord line at .value)
+
+abbrev pub pastFloat : List ℕ → ℕ → ℕ
+pastFloat line at = bitsWord line at .end
+
 -- an array of floats, of which so many are used and the others are 0
 unfoldable pub floatsAt : List ℕ → ℕ → Floats
 floatsAt line at =
-    let floats = floatsIn mostFloats line at in
+    let floats = seriesIn (floatAt line) (pastFloat line) (length line) mostFloats at in
     record {
-      values = floats ++ replicate (mostFloats - length floats) (ofBits binary64 0);
+      values = arrayOf mostFloats (ofBits binary64 0) floats;
       count = length floats;
-      end = floatsEnd mostFloats line at;
+      end = seriesEnd (pastFloat line) (length line) mostFloats at;
     }
 
 -- ---- what follows the name
@@ -103,4 +105,15 @@ sampleAt line at =
     record {
       value = record { x = ofBits binary64 (x .value); y = ofBits binary64 (y .value); z = ofBits binary64 (z .value) };
       end = z .end;
+    }
+
+-- the session that the bytes of a word hold, or 14; a word of no digits is not there
+unfoldable pub loadAt : List ℕ → ℕ → LoadCall
+loadAt line at =
+    let from = pastSpace line at in
+    let bytes = bytesIn line from in
+    record {
+      number = readOf bytes .number;
+      session = readOf bytes .session;
+      end = cond (eqb (length bytes) 0) 0 (pastBytes line from);
     }

@@ -19,7 +19,9 @@ use Rattle.epoch_steps.specs.declared.RoundValues.{RoundValues}
 use Rattle.reasons.specs.declared.Reason.{Reason}
 use Rattle.reasons.specs.declared.Differences.{Differences}
 use Rattle.reasons.specs.declared.Explanation.{Explanation}
+use Rattle.image.specs.Standing.{imageOf}
 use Rattle.text.specs.Numbers.{ascii, decimal, signed, numbers, hex}
+use Rattle.script.specs.Bytes.{digitsOf}
 
 -- ---- words, each after a space
 
@@ -105,6 +107,14 @@ whyLine e =
     ∷ flatten (differenceWords (e .differences))
     ∷ ascii "\n"
     ∷ []
+
+-- ---- saving: the bytes of the session's image; loading: the number
+
+unfoldable pub saveLine : Session → List (List ℕ)
+saveLine s = ascii "save 0 " ∷ digitsOf (imageOf s) ∷ ascii "\n" ∷ []
+
+unfoldable pub loadLine : ℕ → List (List ℕ)
+loadLine number = ascii "load" ∷ flatten (natural number) ∷ ascii "\n" ∷ []
 
 -- ---- a record: seven naturals, then three axes
 

@@ -1,14 +1,17 @@
 // The calls of a script, read from a line.
-use crate::floats::float_of;
+use crate::digits::read_bytes;
 use crate::pieces::read_three;
 use crate::pieces::read_tolerances;
 use crate::words::bits_word;
 use crate::words::natural_word;
+use crate::words::past_space;
 use axis::Tolerances;
+use image::float_of;
+use session::Session;
 use session::WholePoint;
 use ticks::Sample;
 ghost use mathlib.Core.Path.{_≡_};
-ghost use Rattle.script.specs.Calls.{beginsWith, isWord, nameOf, settingsAt, floatsAt, openAt, sampleAt};
+ghost use Rattle.script.specs.Calls.{beginsWith, isWord, bareName, nameOf, settingsAt, floatsAt, openAt, sampleAt, loadAt};
 
 pub enum Name {
     Open,
@@ -19,6 +22,8 @@ pub enum Name {
     Start,
     Refine,
     Why,
+    Save,
+    Load,
     Nothing,
 }
 
@@ -47,6 +52,13 @@ pub struct ReadSample {
     pub end: usize,
 }
 
+// The number 0 and a session, or 14.
+pub struct LoadCall {
+    pub number: u8,
+    pub session: Session,
+    pub end: usize,
+}
+
 fn begins(line: &[u8], word: &[u8]) -> bool
     ensures { λ r. ⌜ r ≡ beginsWith (now (line .entry)) (now (word .entry)) ⌝ }
 {
@@ -72,7 +84,23 @@ fn is_word(line: &[u8], word: &[u8]) -> bool
     begins(line, word)
 }
 
-// Which call a line begins with, in at most 4,096 bytes; a call that carries nothing is the whole line.
+// A call that carries nothing is the whole line.
+fn bare_name(line: &[u8]) -> Name
+    ensures { λ r. ⌜ r ≡ bareName (now (line .entry)) ⌝ }
+{
+    if is_word(line, b"predict") {
+        return Name::Predict;
+    }
+    if is_word(line, b"withdraw") {
+        return Name::Withdraw;
+    }
+    if is_word(line, b"save") {
+        return Name::Save;
+    }
+    Name::Nothing
+}
+
+// Which call a line begins with, in at most 4,096 bytes.
 pub fn name_of(line: &[u8]) -> Name
     ensures { λ r. ⌜ r ≡ nameOf (now (line .entry)) ⌝ }
 {
@@ -97,13 +125,10 @@ pub fn name_of(line: &[u8]) -> Name
     if begins(line, b"why") {
         return Name::Why;
     }
-    if is_word(line, b"predict") {
-        return Name::Predict;
+    if begins(line, b"load") {
+        return Name::Load;
     }
-    if is_word(line, b"withdraw") {
-        return Name::Withdraw;
-    }
-    Name::Nothing
+    bare_name(line)
 }
 
 fn read_settings(line: &[u8], at: usize) -> Settings
@@ -173,5 +198,21 @@ pub fn read_sample(line: &[u8], at: usize) -> ReadSample
             z: float_of(z.value),
         },
         end: z.end,
+    }
+}
+
+// What follows the name of a loading, which ends at a place: one word of digits.
+pub fn read_load(line: &[u8], at: usize) -> LoadCall
+    ensures { λ r. ⌜ r ≡ loadAt (now (line .entry)) at ⌝ }
+{
+    let read = read_bytes(line, past_space(line, at));
+    let values = read.values;
+    let count = read.count;
+    let loaded = image::read(&values[..count]);
+    let session = loaded.session;
+    LoadCall {
+        number: loaded.number,
+        session,
+        end: if count == 0 { 0 } else { read.end },
     }
 }

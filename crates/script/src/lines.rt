@@ -1,9 +1,9 @@
 // Answers and records as lines, written into a lent buffer at a place. Each function answers the place past what it wrote.
-use crate::floats::bits_of;
 use axis::Axis;
 use axis::Motion;
 use exact::Exact;
 use exact::Reported;
+use image::bits_of;
 use session::Session;
 use session::State;
 use steps::Answer;

@@ -33,7 +33,7 @@ fn integer_of(read: Signed) -> Integer
 }
 
 // The place past the space at a place, and 0 where there is none.
-fn past_space(line: &[u8], at: usize) -> usize
+pub(crate) fn past_space(line: &[u8], at: usize) -> usize
     ensures { λ r. ⌜ r ≡ pastSpace (now (line .entry)) at ⌝ }
 {
     if at == 0 {

@@ -99,12 +99,11 @@ fn correct_with(s: Session, w: WholeSample) -> AfterCorrect
     judge(s, w, q)
 }
 
-pub fn correct_step(s: Session, a: Sample) -> AfterCorrect
+// A record that is known to await a correction.
+pub fn correct_awaiting(s: Session, a: Sample) -> AfterCorrect
+    requires { ⌜ awaiting s ≡ true ⌝ }
     ensures { λ r. ⌜ r ≡ correctOf s a ⌝ }
 {
-    if !is_awaiting(s) {
-        return refuse_correct(s, 7);
-    }
     let rounded = ticks::round_sample(a);
     let fault = rounded.fault;
     let number = fault_number(fault);
@@ -113,4 +112,13 @@ pub fn correct_step(s: Session, a: Sample) -> AfterCorrect
     }
     let w = rounded.ticks;
     correct_with(s, w)
+}
+
+pub fn correct_step(s: Session, a: Sample) -> AfterCorrect
+    ensures { λ r. ⌜ r ≡ correctOf s a ⌝ }
+{
+    if !is_awaiting(s) {
+        return refuse_correct(s, 7);
+    }
+    correct_awaiting(s, a)
 }

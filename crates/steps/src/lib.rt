@@ -10,14 +10,17 @@ mod reports;
 mod withdraws;
 
 pub use checks::fault_number;
+pub use corrects::correct_awaiting;
 pub use corrects::correct_step;
 pub use opens::axis_samples;
 pub use opens::open_step;
+pub use predicts::predict_settled;
 pub use predicts::predict_step;
 pub use reports::no_change;
 pub use reports::no_reported_point;
 pub use reports::report_motion;
 pub use reports::report_point;
+pub use withdraws::withdraw_awaiting;
 pub use withdraws::withdraw_step;
 
 // A position and a velocity, each beside its report.

@@ -8,6 +8,8 @@ use session::is_settled;
 use session::point_in_range;
 use session::predicted_point;
 ghost use mathlib.Core.Path.{_≡_};
+ghost use mathlib.Core.Bool.{true};
+ghost use Rattle.session.specs.Holding.{settled};
 ghost use Rattle.steps.specs.Steps.{predictOf};
 
 fn refuse_predict(s: Session, number: u8) -> AfterPredict
@@ -19,12 +21,11 @@ fn refuse_predict(s: Session, number: u8) -> AfterPredict
     }
 }
 
-pub fn predict_step(s: Session) -> AfterPredict
+// A record that is known to be settled.
+pub fn predict_settled(s: Session) -> AfterPredict
+    requires { ⌜ settled s ≡ true ⌝ }
     ensures { λ r. ⌜ r ≡ predictOf s ⌝ }
 {
-    if !is_settled(s) {
-        return refuse_predict(s, 7);
-    }
     if 1_000_000 <= s.accepted {
         return refuse_predict(s, 9);
     }
@@ -38,4 +39,13 @@ pub fn predict_step(s: Session) -> AfterPredict
         session,
         answer: Prediction::Predicted(point),
     }
+}
+
+pub fn predict_step(s: Session) -> AfterPredict
+    ensures { λ r. ⌜ r ≡ predictOf s ⌝ }
+{
+    if !is_settled(s) {
+        return refuse_predict(s, 7);
+    }
+    predict_settled(s)
 }

@@ -5,7 +5,21 @@ use session::Session;
 use session::is_awaiting;
 use session::settle;
 ghost use mathlib.Core.Path.{_≡_};
+ghost use mathlib.Core.Bool.{true};
+ghost use Rattle.session.specs.Holding.{awaiting};
 ghost use Rattle.steps.specs.Steps.{withdrawOf};
+
+// A record that is known to await a correction.
+pub fn withdraw_awaiting(s: Session) -> AfterWithdraw
+    requires { ⌜ awaiting s ≡ true ⌝ }
+    ensures { λ r. ⌜ r ≡ withdrawOf s ⌝ }
+{
+    let session = settle(s);
+    AfterWithdraw {
+        session,
+        answer: Withdrawal::Withdrawn,
+    }
+}
 
 pub fn withdraw_step(s: Session) -> AfterWithdraw
     ensures { λ r. ⌜ r ≡ withdrawOf s ⌝ }
@@ -16,9 +30,5 @@ pub fn withdraw_step(s: Session) -> AfterWithdraw
             answer: Withdrawal::Refused(7),
         };
     }
-    let session = settle(s);
-    AfterWithdraw {
-        session,
-        answer: Withdrawal::Withdrawn,
-    }
+    withdraw_awaiting(s)
 }

@@ -2,7 +2,7 @@
 use mathlib.Core.Path.{sym, subst}
 use Prim.Native.Nat.{_≤_}
 use borrow.Author.Needs.{needs}
-use Rattle.script.proofs.Series.{floats-few}
+use Rattle.script.proofs.Floats.{floats-few}
 use Rattle.player.proofs.answering.answer_refine.Statement.{statement}
 use Rattle.player.proofs.answering.answer_refine.Tie as tie
 

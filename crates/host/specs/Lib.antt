@@ -1,0 +1,4 @@
+-- What the contracts of `host` cite.
+pub mod Answers
+pub mod Samples
+pub mod Calls

@@ -1,0 +1,1 @@
+// Theorems about the calls from C; no code.
