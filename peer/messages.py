@@ -1,4 +1,4 @@
-"""The ephemeris message of a request, its refusals, and a strict reader of what is written."""
+"""The ephemeris message of a request, and its refusals."""
 import re
 from fractions import Fraction
 
@@ -137,69 +137,3 @@ def message(request):
     if request.room is not None and len(text) > request.room:
         return 12, b''
     return 0, text
-
-
-# The reader
-
-class NoMessage(Exception):
-    """The line at which a text is no message, counted from 1."""
-
-
-class Message:
-    """What a message says: values by keyword, and of each data line seconds and whole decimals."""
-
-    def __init__(self, given, epochs, decimals):
-        self.given, self.epochs, self.decimals = given, epochs, decimals
-
-
-def read_head(lines):
-    """The values by keyword."""
-    given = {}
-    for at, (keyword, fixed) in enumerate(HEAD):
-        line = lines[at] if at < len(lines) else b''
-        value = line[len(keyword) + 3:]
-        stands = line == value_line(keyword, value if fixed is None else fixed)
-        if fixed is None and keyword in NAMES:
-            stands = stands and good_name(keyword, value)
-        elif fixed is None:
-            stands = stands and seconds_of(value) is not None
-        if not stands:
-            raise NoMessage(at + 1)
-        given[keyword] = value
-    return given
-
-
-def read_decimal(text, places):
-    """A decimal as a whole number of its last place; none where it is not written so."""
-    if not re.fullmatch(rb'-?(0|[1-9][0-9]*)\.[0-9]{%d}' % places, text) or over_digits(text):
-        return None
-    count = int(text.replace(b'.', b''))
-    return None if text.startswith(b'-') and count == 0 else count
-
-
-def read_line(line):
-    """Seconds and decimals of a data line; none where it is no such line."""
-    epoch, *texts = line.split(b' ')
-    if seconds_of(epoch) is None or len(texts) != 6:
-        return None
-    decimals = [read_decimal(text, PLACES[i // 3]) for i, text in enumerate(texts)]
-    return None if None in decimals else (seconds_of(epoch), decimals)
-
-
-def read_message(text):
-    """What a message says; each line has to be as this file writes it."""
-    lines = text.split(b'\n')
-    if lines.pop() != b'':
-        raise NoMessage(len(lines) + 1)
-    given = read_head(lines)
-    read = [read_line(line) for line in lines[len(HEAD):]] or [None]
-    if None in read:
-        raise NoMessage(len(HEAD) + 1 + read.index(None))
-    epochs = [epoch for epoch, _ in read]
-    step = epochs[1] - epochs[0] if len(epochs) > 1 else 1
-    for at, epoch in enumerate(epochs):
-        if epoch != seconds_of(given['START_TIME']) + at * step or not 1 <= step <= STEP_MOST:
-            raise NoMessage(len(HEAD) + 1 + at)
-    if epochs[-1] != seconds_of(given['STOP_TIME']):
-        raise NoMessage([keyword for keyword, _ in HEAD].index('STOP_TIME') + 1)
-    return Message(given, epochs, [decimals for _, decimals in read])

@@ -7,6 +7,7 @@ mod writer;
 pub use counting::seconds_of;
 pub use finding::moment_of;
 pub use reader::read_time;
+pub use reader::same;
 pub use writer::put_time;
 
 pub struct Moment {

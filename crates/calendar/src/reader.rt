@@ -80,7 +80,7 @@ fn moment_in(s: &[u8]) -> Moment
     }
 }
 
-fn same(a: &[u8], b: &[u8]) -> bool
+pub fn same(a: &[u8], b: &[u8]) -> bool
     ensures { λ r. ⌜ r ≡ sameText (now (a .entry)) (now (b .entry)) ⌝ }
 {
     if a.len() != b.len() {

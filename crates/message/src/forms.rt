@@ -24,7 +24,7 @@ fn has_between(s: &[u8], low: u8, high: u8) -> bool
 }
 
 // Every byte is from low to high.
-fn all_between(s: &[u8], low: u8, high: u8) -> bool
+pub fn all_between(s: &[u8], low: u8, high: u8) -> bool
     ensures { λ r. ⌜ r ≡ allBetween low high (now (s .entry)) ⌝ }
 {
     let mut i = 0;
@@ -49,7 +49,7 @@ fn one_case(name: &[u8]) -> bool
 }
 
 // A name after a keyword of so many characters.
-fn name_holds(keyword: usize, name: &[u8]) -> bool
+pub fn name_holds(keyword: usize, name: &[u8]) -> bool
     requires { ⌜ keyword ≤ 251 ⌝ }
     ensures { λ r. ⌜ r ≡ nameHolds keyword (now (name .entry)) ⌝ }
 {
@@ -104,7 +104,7 @@ fn is_some(r: Reading) -> bool
     }
 }
 
-pub(crate) fn is_time(s: &[u8]) -> bool
+pub fn is_time(s: &[u8]) -> bool
     ensures { λ r. ⌜ r ≡ isTime (now (s .entry)) ⌝ }
 {
     is_some(read_time(s))

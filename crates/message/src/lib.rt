@@ -6,6 +6,10 @@ mod points;
 mod refusals;
 mod writer;
 
+pub use forms::all_between;
+pub use forms::is_time;
+pub use forms::name_holds;
+pub use lines::put_time_entry;
 pub use writer::write_message;
 
 // The number that refuses, or 0, and how many bytes were written.

@@ -28,7 +28,7 @@ pub(crate) fn put_entry(out: &mut [u8], at: usize, keyword: &[u8], value: &[u8])
     put_word(out, c, b"\n")
 }
 
-pub(crate) fn put_time_entry(out: &mut [u8], at: usize, keyword: &[u8], seconds: u64) -> usize
+pub fn put_time_entry(out: &mut [u8], at: usize, keyword: &[u8], seconds: u64) -> usize
     requires { ⌜ seconds ≤ mostSeconds ⌝ }
     requires { ⌜ Room (now out) at (entry (now keyword) (timeAfter seconds)) ⌝ }
     ensures { λ r. ⌜ Wrote (now (out .entry)) at (flatten (entry (now (keyword .entry)) (timeAfter seconds))) (now (out .exit)) r ⌝ }

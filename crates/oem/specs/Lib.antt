@@ -1,2 +1,3 @@
--- What the contracts of `oem` cite: the bytes that it writes (`Answers`).
+-- What the contracts of `oem` cite: what `oem write` writes (`Answers`), and what `oem mend` writes (`Mended`).
 pub mod Answers
+pub mod Mended

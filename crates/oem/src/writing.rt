@@ -1,5 +1,6 @@
 // `oem write`: a request is read, and the message or the one line that answers it is written.
 use crate::answers::answer;
+use crate::output::put;
 use crate::reading::read_all;
 ghost use Prim.Native.Nat.{_≤_};
 ghost use lib.ListN.{length};
@@ -28,10 +29,4 @@ fn serve(input: &mut [u8], numbers: &mut [i64], out: &mut [u8])
     }
     let length = answer(&input[..held], numbers, out);
     put(&out[..length]);
-}
-
-fn put(text: &[u8]) {
-    if !io::write_all(libc::STDOUT_FILENO, text) {
-        os::fail(b"oem: standard output");
-    }
 }

@@ -1,0 +1,11 @@
+-- What is proved of messages that are read and mended (`Theorems`), and what the statements need: lines (`Lines`), answers (`Answering`),
+-- where the reader stops (`Stopping`), what C-14 sends (`Sent`), the data lines that are kept (`Keeping`), what mending does (`Changes`),
+-- and texts worked out (`Figures`).
+pub mod Lines
+pub mod Answering
+pub mod Stopping
+pub mod Sent
+pub mod Keeping
+pub mod Changes
+pub mod Figures
+pub mod Theorems

@@ -1,0 +1,1 @@
+// Theorems about messages that are read and mended; no code.

@@ -1,0 +1,90 @@
+-- What the reader finds in a text: a message, or the line at which it stops. Definitions only.
+use Prim.Native.Nat.{ℕ, _+_}
+use mathlib.Core.Bool.{Bool, cond}
+use mathlib.Core.List.{List, [], _∷_, flatten, map}
+use lib.Dec.{ltb, eqb}
+use lib.ListN.{length, take, getD}
+use Rattle.integers.specs.Tests.{_and_}
+use Rattle.calendar.specs.Text.{sameText}
+use Rattle.message.specs.Message.{timeAfter}
+use Rattle.received.specs.Lines.{linesIn}
+use Rattle.received.specs.Slots.{Slot, any, formOf, restIn, Walked, Through, Stopped, walk}
+use Rattle.received.specs.Profile.{commentForm, slots}
+use Rattle.received.specs.Data.{Point, pointsIn, firstSeconds, lastSeconds}
+use Rattle.received.specs.Messages.{Message}
+
+-- the groups of lines before the data, and the points; or the number of a line, the first being 1
+pub data Read : Type 0 where
+  Reads : List (List (List ℕ)) → List Point → Read
+  Stops : ℕ → Read
+
+-- ---- the groups by their slots, which are counted from 0
+
+abbrev pub slotAt : ℕ → Slot
+slotAt k = getD slots k (any commentForm)
+
+abbrev pub frontAt : ℕ → List ℕ
+frontAt k = formOf (slotAt k) .front
+
+-- the line of a slot for one line, and what stands behind its front
+unfoldable pub lineAt : List (List (List ℕ)) → ℕ → List ℕ
+lineAt groups k = getD (getD groups k []) 0 []
+
+unfoldable pub restAt : List (List (List ℕ)) → ℕ → List ℕ
+restAt groups k = restIn (frontAt k) (lineAt groups k)
+
+-- the number of the first line from a slot on: one more than the lines before it
+unfoldable pub numberAt : List (List (List ℕ)) → ℕ → ℕ
+numberAt groups k = 1 + length (flatten (take k groups))
+
+abbrev pub startSlot : ℕ
+startSlot = 11
+
+abbrev pub stopSlot : ℕ
+stopSlot = 12
+
+abbrev pub dataSlot : ℕ
+dataSlot = 15
+
+-- ---- reading
+
+unfoldable pub unless : Bool → ℕ → Read → Read
+unless passes line r = cond passes r (Stops line)
+
+-- some line, and every line, is read
+unfoldable pub allRead : List Point → List (List ℕ) → Bool
+allRead points lines = ltb 0 (length points) and eqb (length points) (length lines)
+
+-- START_TIME and STOP_TIME are compared at the very end, in this order
+unfoldable pub readBehind : List (List (List ℕ)) → List (List ℕ) → List Point → Read
+readBehind groups rest points =
+    unless (allRead points rest) (numberAt groups dataSlot + length points)
+    (unless (sameText (restAt groups startSlot) (timeAfter (firstSeconds points))) (numberAt groups startSlot)
+    (unless (sameText (restAt groups stopSlot) (timeAfter (lastSeconds points))) (numberAt groups stopSlot)
+    (Reads groups points)))
+
+unfoldable pub readBy : Walked → Read
+readBy (Stopped lines) = Stops (length lines + 1)
+readBy (Through groups rest) = readBehind groups rest (pointsIn 0 rest)
+
+unfoldable pub readLines : List (List ℕ) → Read
+readLines lines = readBy (walk slots lines)
+
+unfoldable pub readOf : List ℕ → Read
+readOf text = readLines (linesIn text)
+
+-- the message that was read
+unfoldable pub messageIn : List (List (List ℕ)) → List Point → Message
+messageIn groups points =
+    record {
+      onMessage = map (restIn (commentForm .front)) (getD groups 1 []);
+      created = restAt groups 2;
+      originator = restAt groups 3;
+      onObject = map (restIn (commentForm .front)) (getD groups 5 []);
+      object = restAt groups 6;
+      id = restAt groups 7;
+      center = restAt groups 8;
+      frame = restAt groups 9;
+      onData = map (restIn (commentForm .front)) (getD groups 14 []);
+      points = points;
+    }
