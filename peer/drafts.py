@@ -5,6 +5,9 @@ from mended import *
 # Gaps between epochs, in seconds: within a step of ours and beyond.
 GAPS = 1, 30, 60, 3600, 3601, 86400, 10 ** 7
 NUMBER_MOST = 10 ** DIGITS_MOST - 1
+# The forms of messages.
+FURTHER_WORDS = tuple(FURTHER.values())
+FORMS = [Form(OLDER, ())] + [Form(NEWER, words) for words in ((), *((word,) for word in FURTHER_WORDS), FURTHER_WORDS)]
 
 
 class Draft:
@@ -35,13 +38,16 @@ class Draft:
 
 
 class Wanted:
-    """The line of reading's refusal, 0 where there is none, and mending's changes or the number of its refusal."""
+    """The line at which reading stops, 0 where it does not, ANOTHER where the edition is; mending's changes, or the number of its
+    refusal."""
 
     def __init__(self, line, mending):
         self.line, self.mending = line, mending
 
 
 READABLE = Wanted(0, [])
+ANOTHER = 'another edition'
+NEITHER = Wanted(ANOTHER, OTHER_EDITION)
 
 
 def stops_at(place):
@@ -74,16 +80,36 @@ def comment_drawn(rng):
     return rng.choice((b'COMMENT', b'COMMENT ', b'COMMENT ' + words, b'COMMENT ' + words))
 
 
-def drafted(rng, points=None, least=1, comments=None, first=0, last=None):
-    """A readable message; comments by keyword where they are given, else drawn."""
+def free_text(rng, length):
+    """A value of a further keyword."""
+    text = bytearray(rng.randrange(0x20, 0x7f) for _ in range(length))
+    text[0], text[-1] = rng.randrange(0x21, 0x7f), rng.randrange(0x21, 0x7f)
+    return bytes(text)
+
+
+def further_line(rng, keyword):
+    return value_line(keyword, free_text(rng, rng.choice((1, 2, 8, 30, rng.randint(1, room_of(keyword))))))
+
+
+def form_with(rng, keyword):
+    """The form of the source, or for a further keyword one that has it."""
+    return rng.choice([form for form in FORMS if keyword in form.further]) if keyword in FURTHER_WORDS else rng.form
+
+
+def drafted(rng, points=None, least=1, comments=None, first=0, last=None, form=None):
+    """A readable message; comments by keyword where they are given, else drawn; of the source's form if no other is given."""
+    form = form or rng.form
     count = points or max(least, rng.choice((1, 1, 2, 3, 5, 8, rng.randint(1, 40))))
     epochs = epochs_drawn(rng, count, first, seconds_of(LAST_SECOND) if last is None else last)
     given = {keyword: name(rng, rng.choice((1, 2, 5, 12))) for keyword in NAMES}
-    given.update(CREATION_DATE=time_drawn(rng), START_TIME=time_text(epochs[0]), STOP_TIME=time_text(epochs[-1]))
+    given.update(CCSDS_OEM_VERS=form.edition, CREATION_DATE=time_drawn(rng), START_TIME=time_text(epochs[0]), STOP_TIME=time_text(epochs[-1]))
     if comments is None:
         comments = {keyword: [comment_drawn(rng) for _ in range(rng.choice((0, 0, 1, 2)))] for keyword in COMMENTED}
     lines, at = [], {}
     for keyword, fixed in HEAD:
+        if FURTHER.get(keyword) in form.further:
+            at[FURTHER[keyword]] = len(lines)
+            lines.append(further_line(rng, FURTHER[keyword]))
         at[keyword] = len(lines)
         lines.append(value_line(keyword, given[keyword] if fixed is None else fixed))
         lines += comments.get(keyword, [])
@@ -96,7 +122,7 @@ def readable(draw):
 
 
 def with_value(rng, keyword, value):
-    draft = drafted(rng)
+    draft = drafted(rng, form=form_with(rng, keyword))
     draft.put(keyword, value)
     return draft
 

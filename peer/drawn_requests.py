@@ -1,5 +1,7 @@
 """Draws requests that are written: each kind leads to some corner of the rules."""
+import collections
 import math
+import random
 import string
 
 from request_lines import *
@@ -12,6 +14,13 @@ TICKS = range(TICK_MOST + 1)
 POSITION_TIE, VELOCITY_TIE = 399168, 49896
 LAST_SECOND = b'9999-12-31T23:59:59'
 FEBRUARIES = 1900, 1996, 2000, 2100
+# An edition, none for a request without a line of it, and the further keywords of a message.
+Form = collections.namedtuple('Form', 'edition further')
+
+
+class Source(random.Random):
+    """What requests and messages are drawn from, and the form that they have where nothing else is asked for."""
+    form = Form(None, ())
 
 
 # Plain requests
@@ -64,8 +73,8 @@ def plain(rng, tick=None, step=None, points=None, start=None):
              for keyword in NAMES}
     room = rng.choice((None, None, 10 ** 6, 2 ** 64 - 1))
     numbers = [number for _ in range(points) for number in point(rng, tick, step)]
-    return Request(time_drawn(rng), names, time_drawn(rng, latest) if start is None else start,
-                   tick, step, room, numbers)
+    return Request(rng.form.edition, time_drawn(rng), names,
+                   time_drawn(rng, latest) if start is None else start, tick, step, room, numbers)
 
 
 def put(request, place, numerator):
@@ -221,8 +230,16 @@ def exact_room(rng):
     return request
 
 
+def with_edition(rng, edition):
+    request = plain(rng)
+    request.edition = edition
+    return request
+
+
 WRITTEN = {
     'a plain request': plain,
+    'no edition': lambda rng: with_edition(rng, None),
+    **{f'edition {edition.decode()}': lambda rng, edition=edition: with_edition(rng, edition) for edition in EDITIONS},
     **{f'{what} {beside} at k {tick}': lambda rng, tick=tick, kind=kind, by=by: ties(rng, tick, kind, by)
        for tick in TICKS for kind, what in enumerate(('positions', 'velocities'))
        for by, beside in ((0, 'at ties'), (-1, 'below ties'), (1, 'above ties'))},

@@ -52,7 +52,8 @@ BAD_WORDS = {
 STRANGE = {
     'a comment': b'COMMENT A', 'a bare COMMENT': b'COMMENT', 'a blank line': b'', 'a line of a blank': b' ', 'a line of a CR': b'\r',
     'META_START': b'META_START', 'META_STOP': b'META_STOP', 'a keyword': b'OBJECT_NAME = A',
-    'a START_TIME': b'START_TIME = 2026-01-01T00:00:00', 'a covariance': b'COVARIANCE_START',
+    'a START_TIME': b'START_TIME = 2026-01-01T00:00:00', 'a covariance': b'COVARIANCE_START', 'a version': b'CCSDS_OEM_VERS = 3.0',
+    'a classification': b'CLASSIFICATION = A', 'a message\'s identifier': b'MESSAGE_ID = A',
     'a line of 255 characters': b'1' * 255, 'a long line': b'0' * 5000, 'a NUL': b'\0', 'a high byte': b'\xff',
 }
 

@@ -19,15 +19,15 @@ BAD_NAMES = {
     'a high byte in a name': lambda rng: b'\xc3\x89', 'a unit separator in a name': lambda rng: b'A\x1fB',
 }
 OPTIONAL = (b'REF_FRAME_EPOCH = 2000-01-01T12:00:00', b'USEABLE_START_TIME = 2026-01-01T00:00:00',
-            b'USEABLE_STOP_TIME = 2026-01-01T00:00:00', b'INTERPOLATION = LAGRANGE', b'INTERPOLATION_DEGREE = 7',
-            b'MESSAGE_ID = A', b'CLASSIFICATION = A')
+            b'USEABLE_STOP_TIME = 2026-01-01T00:00:00', b'INTERPOLATION = LAGRANGE', b'INTERPOLATION_DEGREE = 7')
 
 
 def head_fault(keyword, spoil):
     """A kind where the head cannot be read from a keyword's line on."""
     def draw(rng):
-        draft = drafted(rng)
-        at = draft.at[keyword or rng.choice(KEYWORDS)]
+        word = keyword or rng.choice(KEYWORDS)
+        draft = drafted(rng, form=form_with(rng, word))
+        at = draft.at[word]
         spoil(rng, draft.lines, at)
         return draft.text(), stops_at(at)
     return draw
@@ -58,7 +58,7 @@ def misspell(rng, lines, at):
 def doubled(keyword):
     """The line twice: the second stands where the next one has to."""
     def draw(rng):
-        draft = drafted(rng, comments={})
+        draft = drafted(rng, comments={}, form=form_with(rng, keyword))
         at = draft.at[keyword]
         draft.lines.insert(at, draft.lines[at])
         return draft.text(), stops_at(at + 1)
@@ -79,7 +79,7 @@ def replace_value(text):
 def ended(keyword, cut):
     """A text that ends before a keyword's line, or within it."""
     def draw(rng):
-        draft = drafted(rng)
+        draft = drafted(rng, form=form_with(rng, keyword))
         at = draft.at[keyword]
         text = b''.join(line + b'\n' for line in draft.lines[:at])
         line = draft.lines[at]
@@ -147,17 +147,15 @@ def exchanged_times(rng):
 HEAD_FAULTS = {
     **{f'no line {keyword}': head_fault(keyword, lose) for keyword in KEYWORDS},
     **{f'the line {keyword} after the next': head_fault(keyword, swap) for keyword in KEYWORDS},
-    **{f'the line {keyword} misspelt': head_fault(keyword, misspell) for keyword in KEYWORDS},
+    **{f'the line {keyword} misspelt': head_fault(keyword, misspell) for keyword in KEYWORDS[1:]},
     **{f'the line {keyword} twice': doubled(keyword) for keyword in KEYWORDS[:-1]},
     **{f'ended before the line {keyword}': ended(keyword, False) for keyword in KEYWORDS},
-    **{f'ended within the line {keyword}': ended(keyword, True) for keyword in KEYWORDS},
+    **{f'ended within the line {keyword}': ended(keyword, True) for keyword in KEYWORDS[1:]},
     **{f'a comment before {keyword}': head_fault(keyword, insert(b'COMMENT', b'COMMENT A')) for keyword in NEVER_COMMENTED},
     'a comment before CCSDS_OEM_VERS': head_fault('CCSDS_OEM_VERS', insert(b'COMMENT', b'COMMENT A')),
     'a blank line before the data': head_fault(None, insert(b'', b' ', b'\r')),
     'a keyword that may be left out': head_fault('META_STOP', insert(*OPTIONAL)),
-    'a keyword of a later edition': head_fault('CREATION_DATE', insert(*OPTIONAL)),
-    'another version': head_fault('CCSDS_OEM_VERS', replace_value(
-        lambda rng: rng.choice((b'1.0', b'3.0', b'2', b'2.00', b'02.0', b'2.0 ', b'')))),
+    'a keyword of the metadata before CREATION_DATE': head_fault('CREATION_DATE', insert(*OPTIONAL)),
     'another time system': head_fault('TIME_SYSTEM', replace_value(lambda rng: rng.choice((b'UTC', b'tai', b'TAI ', b'GPS', b'')))),
     **{f'{label} of creation': head_fault('CREATION_DATE', replace_value(lambda rng, text=text: text))
        for label, text in BAD_TIMES.items()},

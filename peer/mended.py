@@ -11,9 +11,11 @@ class Unmendable(Exception):
 
 def mend(text):
     """The mended text, and the changes by line: its number, and what was done."""
-    lines = lines_in(text)
     try:
+        lines = lines_of_edition(text)
         head = head_in(lines)
+    except OtherEdition:
+        raise Unmendable(OTHER_EDITION)
     except Unreadable:
         raise Unmendable(16)
     kept, epochs, dropped = lines[:head.length], [], []

@@ -13,17 +13,21 @@ TICK_MOST, STEP_MOST = 16, 3600
 # The keywords whose values are names, each with the word of a request.
 NAMES = {'ORIGINATOR': 'originator', 'OBJECT_NAME': 'object', 'OBJECT_ID': 'id',
          'CENTER_NAME': 'center', 'REF_FRAME': 'frame'}
+# The versions of the editions that are read and written, the older one first, and the refusal of any other.
+EDITIONS = OLDER, NEWER = b'2.0', b'3.0'
+OTHER_EDITION = 17
 # The lines before the data: a keyword, and its value where that is fixed.
-HEAD = (('CCSDS_OEM_VERS', b'2.0'), ('CREATION_DATE', None), ('ORIGINATOR', None),
+HEAD = (('CCSDS_OEM_VERS', None), ('CREATION_DATE', None), ('ORIGINATOR', None),
         ('META_START', b''), ('OBJECT_NAME', None), ('OBJECT_ID', None), ('CENTER_NAME', None),
         ('REF_FRAME', None), ('TIME_SYSTEM', b'TAI'), ('START_TIME', None), ('STOP_TIME', None),
         ('META_STOP', b''))
 
 
 class Request:
-    """What a message is made of: bytes, but for tick, step, room (none if unlimited) and numbers."""
+    """What a message is made of: bytes, but for tick, step, room (none if unlimited) and numbers; no edition is the older one."""
 
-    def __init__(self, created, names, start, tick, step, room, numbers):
+    def __init__(self, edition, created, names, start, tick, step, room, numbers):
+        self.edition = edition
         self.created, self.names, self.start = created, names, start
         self.tick, self.step, self.room, self.numbers = tick, step, room, numbers
 
@@ -114,6 +118,14 @@ def fields(request, point):
     return texts
 
 
+# Editions
+
+def other_edition(text, before):
+    """Whether a text begins so and goes on, up to its first newline or its end, with the version of no edition."""
+    line = text.partition(b'\n')[0]
+    return line.startswith(before) and line[len(before):] not in EDITIONS
+
+
 # The message
 
 def value_line(keyword, value):
@@ -128,8 +140,8 @@ def message(request):
     points = [fields(request, point) for point in range(request.points())]
     if len(request.numbers) % LENGTH != 0 or None in points:
         return 6, b''
-    given = {**request.names, 'CREATION_DATE': request.created, 'START_TIME': request.start,
-             'STOP_TIME': time_text(request.last())}
+    given = {**request.names, 'CCSDS_OEM_VERS': request.edition or OLDER, 'CREATION_DATE': request.created,
+             'START_TIME': request.start, 'STOP_TIME': time_text(request.last())}
     lines = [value_line(keyword, given[keyword] if fixed is None else fixed)
              for keyword, fixed in HEAD]
     lines += [b' '.join([time_text(request.epoch(i)), *texts]) for i, texts in enumerate(points)]

@@ -1,9 +1,11 @@
-"""The strict reader of messages, ours and those of partners, and what oem read prints."""
+"""The strict reader of messages of both editions, ours and those of partners, and what oem read prints."""
 from messages import *
 
 BYTES_MOST = 1100000  # of a message that the program takes
 # The keywords with whose lines a run of comments may begin: right behind each of them.
 COMMENTED = 'CCSDS_OEM_VERS', 'META_START', 'META_STOP'
+# The further keywords of the newer edition, whose lines may be left out, each by the keyword that it stands before.
+FURTHER = {'CREATION_DATE': 'CLASSIFICATION', 'META_START': 'MESSAGE_ID'}
 # The keywords whose values are looked at last.
 LAST = 'START_TIME', 'STOP_TIME'
 # The values that are printed, in this order.
@@ -14,11 +16,15 @@ class Unreadable(Exception):
     """The line at which a text is no message, counted from 1."""
 
 
-class Head:
-    """The lines before the data: values and line numbers by keyword, and how many lines, comments among them."""
+class OtherEdition(Exception):
+    """The version line names neither edition."""
 
-    def __init__(self, given, numbers, length):
-        self.given, self.numbers, self.length = given, numbers, length
+
+class Head:
+    """The lines before the data: values and line numbers by keyword, how many lines, comments among them, and the further keywords."""
+
+    def __init__(self, given, numbers, length, further):
+        self.given, self.numbers, self.length, self.further = given, numbers, length, further
 
 
 class Received:
@@ -29,6 +35,13 @@ class Received:
 
 
 # Lines
+
+def lines_of_edition(text):
+    """The lines of a text whose version line does not name another edition."""
+    if other_edition(text, b'CCSDS_OEM_VERS = '):
+        raise OtherEdition
+    return lines_in(text)
+
 
 def lines_in(text):
     """The lines without their newlines; none in place of a last one that was not ended."""
@@ -45,6 +58,15 @@ def is_comment(line):
     return line is not None and fits_a_line(line) and (line == b'COMMENT' or line.startswith(b'COMMENT '))
 
 
+def is_free_text(line, keyword):
+    """Whether a line has a value under a further keyword: any case, no blank at either end."""
+    before = keyword.encode() + b' = '
+    if line is None or not line.startswith(before) or not fits_a_line(line):
+        return False
+    value = line[len(before):]
+    return value != b'' and value == value.strip(b' ')
+
+
 def value_in(line, keyword, fixed):
     """The value of a line before the data; none where another line has to stand there."""
     if fixed is not None:
@@ -57,6 +79,8 @@ def value_in(line, keyword, fixed):
         stands = fits_a_line(line)
     elif keyword in NAMES:
         stands = good_name(keyword, value)
+    elif keyword == 'CCSDS_OEM_VERS':
+        stands = value in EDITIONS
     else:
         stands = seconds_of(value) is not None
     return value if stands else None
@@ -82,8 +106,12 @@ def point_in(line):
 # The message
 
 def head_in(lines):
-    given, numbers, at = {}, {}, 0
+    given, numbers, at, further = {}, {}, 0, []
     for keyword, fixed in HEAD:
+        other = FURTHER.get(keyword) if given.get('CCSDS_OEM_VERS') == NEWER else None
+        if other and at < len(lines) and is_free_text(lines[at], other):
+            further.append(other)
+            at += 1
         value = value_in(lines[at] if at < len(lines) else None, keyword, fixed)
         at += 1
         if value is None:
@@ -91,12 +119,12 @@ def head_in(lines):
         given[keyword], numbers[keyword] = value, at
         while keyword in COMMENTED and at < len(lines) and is_comment(lines[at]):
             at += 1
-    return Head(given, numbers, at)
+    return Head(given, numbers, at, further)
 
 
 def read(text):
-    """What a message says; the two times are looked at last."""
-    lines = lines_in(text)
+    """What a message says; the version is looked at first, and the two times last."""
+    lines = lines_of_edition(text)
     head = head_in(lines)
     points = []
     for number, line in enumerate(lines[head.length:], head.length + 1):
@@ -123,6 +151,8 @@ def printed(text):
         return too_long(text)
     try:
         message = read(text)
+    except OtherEdition:
+        return b'refused %d\n' % OTHER_EDITION
     except Unreadable as line:
         return b'refused 15 %d\n' % line.args[0]
     lines = [b'%s %s\n' % (keyword.encode(), message.given[keyword]) for keyword in PRINTED]

@@ -20,6 +20,12 @@ BAD_TIMES = {
     'other bytes': b'\xd9\xa2026-01-01T00:00:0', 'other separators': b'2026/01/01T00.00.00',
 }
 
+# Versions of neither edition.
+OTHER_VERSIONS = (
+    b'', b' ', b'1.0', b'4.0', b'2', b'3', b'2.', b'3.', b'.0', b'2.00', b'3.00', b'02.0', b'03.0', b'2.1', b'3.1', b'20', b'30', b'2.0.0',
+    b' 2.0', b' 3.0', b'2.0 ', b'3.0 ', b'2.0\r', b'3.0\r', b'2.0\t', b'3.0\0', b'2.0\x7f', b'2,0', b'3,0', b'+3.0', b'-2.0', b'V3.0',
+    b'2.0 3.0', b'2.O', b'3.0 COMMENT A', b'B-3', b'two', b'THREE', b'\xef\xbb\xbf2.0', b'\xd9\xa3.0', b'3.0'.ljust(255, b'0'))
+
 
 # 11
 
@@ -130,6 +136,11 @@ POINT_FAULTS = {
 }
 
 
+# 17
+
+EDITION_FAULTS = {f'edition {version!r}': setting('edition', version) for version in OTHER_VERSIONS}
+
+
 # 12
 
 def one_short(rng, request):
@@ -143,7 +154,7 @@ ROOM_FAULTS = {
     'room for the head alone': setting('room', 200, 250),
 }
 
-REFUSED = {11: FORM_FAULTS, 6: POINT_FAULTS, 12: ROOM_FAULTS}
+REFUSED = {OTHER_EDITION: EDITION_FAULTS, 11: FORM_FAULTS, 6: POINT_FAULTS, 12: ROOM_FAULTS}
 
 
 def spoilt_by(faults):
@@ -151,7 +162,7 @@ def spoilt_by(faults):
     def draw(rng):
         # Those that draw other points come before those that look at the text.
         request = plain(rng, step=rng.randint(1, 100), start=time_drawn(rng, b'9998-01-01T00:00:00'))
-        for number in (6, 12, 11):
+        for number in (6, 12, 11, OTHER_EDITION):
             if number in faults:
                 faults[number](rng, request)
         return request
@@ -166,4 +177,4 @@ def one_of(faults):
 TOGETHER = {
     f'{" and ".join(map(str, numbers))} together': (numbers[0], spoilt_by(
         {number: one_of(REFUSED[number]) for number in numbers}))
-    for numbers in ((11, 6), (11, 12), (6, 12), (11, 6, 12))}
+    for numbers in ((11, 6), (11, 12), (6, 12), (11, 6, 12), (17, 11), (17, 6), (17, 12), (17, 11, 6, 12))}

@@ -6,8 +6,9 @@ from messages import *
 NATURAL = re.compile(rb'0|[1-9][0-9]*')
 WHOLE = re.compile(rb'0|-?[1-9][0-9]*')
 UNSIGNED, SIGNED = range(2 ** 64), range(-2 ** 63, 2 ** 63)
-# The lines that stand before the points, in their order; room alone may be left out.
-WORDS = ('created', *NAMES.values(), 'start', 'tick', 'step', 'room')
+# The lines that stand before the points, in their order, and those of them that may be left out.
+WORDS = ('edition', 'created', *NAMES.values(), 'start', 'tick', 'step', 'room')
+LEFT_OUT = 'edition', 'room'
 NUMBERS = 'tick', 'step', 'room'
 
 
@@ -41,7 +42,7 @@ def read_request(text):
     given, numbers, at = {}, [], 0
     for word in WORDS:
         rest = rest_of(lines[at], word) if at < len(lines) else None
-        if rest is None and word == 'room':
+        if rest is None and word in LEFT_OUT:
             continue
         given[word] = number(rest or b'', NATURAL, UNSIGNED) if word in NUMBERS else rest
         at += 1
@@ -56,17 +57,15 @@ def read_request(text):
     if unended:
         raise NoRequest(at + 1)
     names = {keyword: given[word] for keyword, word in NAMES.items()}
-    return Request(given['created'], names, given['start'], given['tick'], given['step'],
+    return Request(given.get('edition'), given['created'], names, given['start'], given['tick'], given['step'],
                    given.get('room'), numbers)
 
 
 def request_text(request):
     """The lines of a request; its numbers have to fill points."""
-    values = [request.created, *(request.names[keyword] for keyword in NAMES), request.start,
-              *(b'%d' % value for value in (request.tick, request.step))]
-    if request.room is not None:
-        values.append(b'%d' % request.room)
-    lines = [word.encode() + b' ' + value for word, value in zip(WORDS, values)]
+    values = [request.edition, request.created, *(request.names[keyword] for keyword in NAMES), request.start,
+              *(None if value is None else b'%d' % value for value in (request.tick, request.step, request.room))]
+    lines = [word.encode() + b' ' + value for word, value in zip(WORDS, values) if value is not None]
     for at in range(0, len(request.numbers), LENGTH):
         point = request.numbers[at:at + LENGTH]
         lines.append(b' '.join([b'point', *(b'%d' % value for value in point)]))
@@ -75,6 +74,8 @@ def request_text(request):
 
 def answer_to(text):
     """What the program oem writes for the lines of a request."""
+    if other_edition(text, b'edition '):
+        return b'refused %d\n' % OTHER_EDITION
     try:
         refusal, written = message(read_request(text))
     except NoRequest as line:

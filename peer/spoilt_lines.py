@@ -43,9 +43,9 @@ def replaced(word, change):
     return spoil
 
 
-def ended_after(count):
+def ended_before(word):
     def spoil(rng, lines):
-        del lines[count:]
+        del lines[line_at(lines, word):]
     return spoil
 
 
@@ -68,7 +68,7 @@ def other_space(rng, line):
     return line.replace(b' ', rng.choice((b'', b'\t', b'=')), 1)
 
 
-REQUIRED, ALL_WORDS = WORDS[:-1], (*WORDS, 'point')
+REQUIRED, AFTER_EDITION = [word for word in WORDS if word not in LEFT_OUT], WORDS[1:]
 BAD_HEADS = {
     'no space after': other_space,
     'the bare word': lambda rng, line: line.split(b' ')[0],
@@ -78,10 +78,10 @@ BAD_HEADS = {
 OTHER_LINES = b'comment A', b'points 1', b'pointer 1', b'stop 2026-01-01T00:00:00'
 LINE_FAULTS = {
     **{f'no line {word}': missing(word) for word in REQUIRED},
-    **{f'a doubled line {word}': doubled(word) for word in WORDS},
-    **{f'a misplaced line {word}': misplaced(word) for word in WORDS},
-    **{f'ended before the line {word}': ended_after(at) for at, word in enumerate(REQUIRED)},
-    **{f'{label} {word}': replaced(word, change) for word in ALL_WORDS for label, change in BAD_HEADS.items()},
+    **{f'a doubled line {word}': doubled(word) for word in AFTER_EDITION},
+    **{f'a misplaced line {word}': misplaced(word) for word in AFTER_EDITION},
+    **{f'ended before the line {word}': ended_before(word) for word in REQUIRED},
+    **{f'{label} {word}': replaced(word, change) for word in (*AFTER_EDITION, 'point') for label, change in BAD_HEADS.items()},
     **{f'{text!r} for {word}': replaced(word, one_number(text)) for word in NUMBERS for text in NO_NATURALS},
     **{f'{text!r} in a point': replaced('point', one_number(text)) for text in NO_WHOLES},
     **{f'a point of {count} numbers': replaced('point', of_numbers(count)) for count in (0, 1, 6, 11, 13, 24)},
@@ -89,14 +89,28 @@ LINE_FAULTS = {
     'a space after a point': replaced('point', lambda rng, line: line + b' '),
     'a line of no bytes': lambda rng, lines: lines.insert(rng.randrange(len(lines) + 1), b''),
     'another word': lambda rng, lines: lines.insert(rng.randrange(len(lines) + 1), rng.choice(OTHER_LINES)),
+    'an edition further down': lambda rng, lines: lines.insert(rng.randint(1, len(lines)), b'edition ' + rng.choice(EDITIONS)),
+    'another edition further down': lambda rng, lines: lines.insert(rng.randint(1, len(lines)), b'edition ' + rng.choice(OTHER_VERSIONS)),
     'a newline in a name': replaced('object', lambda rng, line: line[:8] + b'\n' + line[8:]),
+}
+# These are of requests that have an edition.
+EDITION_LINE_FAULTS = {
+    'a doubled line edition': doubled('edition'),
+    'a misplaced line edition': misplaced('edition'),
+    'another edition behind an edition': lambda rng, lines: lines.insert(1, b'edition ' + rng.choice(OTHER_VERSIONS)),
+    'an edition behind the creation time': lambda rng, lines: lines.insert(1, lines.pop(0)),
+    **{f'{label} edition': replaced('edition', change) for label, change in BAD_HEADS.items()},
+    'an edition alone': ended_before('created'),
 }
 
 
-def spoilt_lines(fault):
-    """A draw of bytes that are no request by one fault; at times the request itself is to be refused too."""
+def spoilt_lines(fault, *editions):
+    """A draw of bytes that are no request by one fault, of one of the editions if some are given; at times the request itself is to be
+    refused too."""
     def draw(rng):
         request = plain(rng)
+        if editions:
+            request.edition = rng.choice(editions)
         request.room = rng.choice((0, 10 ** 6))
         if rng.randrange(4) == 0:
             one_of(FORM_FAULTS)(rng, request)
@@ -115,13 +129,32 @@ def unended(rng):
 
 
 def cut(rng):
-    """The first bytes of a request, within a line."""
-    text = request_text(plain(rng))
-    return text[:rng.choice([at for at in range(1, len(text)) if text[at - 1:at] != b'\n'])]
+    """The first bytes of a request, within a line but not within an edition."""
+    request = plain(rng)
+    text, first = request_text(request), len(b'edition 2.0') if request.edition else 1
+    return text[:rng.choice([at for at in range(first, len(text)) if text[at - 1:at] != b'\n'])]
 
 
+def of_edition(edition, rest):
+    """A draw of an edition and other bytes behind it."""
+    return lambda rng: b'edition ' + rng.choice(edition) + rest(rng)
+
+
+# By label what is refused for its edition although it is no request.
+EDITION_TEXTS = {
+    'another edition before lines that are no request': of_edition(
+        OTHER_VERSIONS, lambda rng: b'\n' + spoilt_lines(rng.choice([*LINE_FAULTS.values()]), None)(rng)),
+    'another edition before any bytes': of_edition(OTHER_VERSIONS, lambda rng: b'\n' + rng.randbytes(rng.randint(1, 100))),
+    'another edition alone': of_edition(OTHER_VERSIONS, lambda rng: b'\n'),
+    'another edition without a newline': of_edition(OTHER_VERSIONS, lambda rng: b''),
+    'an edition of no byte without a newline': lambda rng: b'edition ',
+    'an edition cut off': lambda rng: of_edition(EDITIONS, lambda rng: b'')(rng)[:rng.choice((-1, -2))],
+    'blanks for newlines': of_edition(EDITIONS, lambda rng: b' ' + request_text(plain(rng)).replace(b'\n', b' ')),
+}
 NO_REQUEST = {
     **{label: spoilt_lines(fault) for label, fault in LINE_FAULTS.items()},
+    **{label: spoilt_lines(fault, *EDITIONS) for label, fault in EDITION_LINE_FAULTS.items()},
+    'an edition without a newline': of_edition(EDITIONS, lambda rng: b''),
     'no final newline': unended,
     'bytes cut off': cut,
     'no bytes': lambda rng: b'',

@@ -94,6 +94,10 @@ def one_byte_more(rng):
     return most_bytes(rng)[0] + b'\n', None
 
 
+def other_version_too_long(rng):
+    return (b'CCSDS_OEM_VERS = 4.0' + most_bytes(rng)[0][len(b'CCSDS_OEM_VERS = 2.0'):]) + b'\n', None
+
+
 # What these come to is up to the two that are compared
 
 def lose_line(rng, lines):
@@ -208,14 +212,18 @@ def gap_anywhere(rng):
     return text[:at] + text[at + rng.randint(1, 400):], None
 
 
-TEXTS = {
+# These are of no edition.
+NO_MESSAGES = {
     'no byte': lambda rng: (b'', stops_at(0)),
     'a newline alone': lambda rng: (b'\n', stops_at(0)),
     'comments alone': lambda rng: (b'COMMENT A\n' * 3, stops_at(0)),
     'random bytes': lambda rng: (rng.randbytes(rng.randint(1, 500)), stops_at(0)),
+    'another version in a text of a byte more': other_version_too_long,
     'data lines alone': lambda rng: (data_line(rng, 10 ** 10) + b'\n', stops_at(0)),
-    'CR LF everywhere': lambda rng: (drafted(rng).text().replace(b'\n', b'\r\n'), stops_at(0)),
-    'CR everywhere': lambda rng: (drafted(rng).text().replace(b'\n', b'\r'), stops_at(0)),
+}
+TEXTS = {
+    'CR LF everywhere': lambda rng: (drafted(rng).text().replace(b'\n', b'\r\n'), NEITHER),
+    'CR everywhere': lambda rng: (drafted(rng).text().replace(b'\n', b'\r'), NEITHER),
     'an unended last line': unended,
     'one data line that is not ended': unended_alone,
     'an unended comment after META_STOP': unended_comment,

@@ -11,11 +11,12 @@ use borrow.Author.Tests.{ltb-false}
 use Rattle.rules.specs.Rules.{firstOf, Gives}
 use Rattle.text.specs.Places.{Wrote}
 use Rattle.message.specs.declared.Written.{Written}
+use Rattle.message.specs.declared.Edition.{Edition}
 use Rattle.message.specs.Request.{Request}
-use Rattle.message.specs.Message.{message}
+use Rattle.message.specs.Message.{messageAs, message}
 use Rattle.message.specs.Refusals.{wellFormed, pointsHold, rules, refusal}
-use Rattle.message.specs.Answer.{answerBy, roomBy, answerTo, roomAfter}
-use Rattle.message.specs.Laws.{left-alone}
+use Rattle.message.specs.Answer.{answerBy, roomBy, answerAs, roomAs}
+use Rattle.message.specs.Laws.{as-long, left-alone}
 
 pub gives : (r : Request) (room : ℕ) {n : ℕ} → Gives (rules r room) n → n ≡ refusal r room
 unfolding refusal
@@ -40,20 +41,23 @@ unfolding refusal
 unrefused r n e =
     none-by r n (wellFormed r) (pointsHold (r .tick) (r .step) (r .points)) (ltb n (length (message r))) refl refl refl e
 
+pub room-as : (e : Edition) (r : Request) (n : ℕ) → Unrefused r n → length (messageAs e r) ≤ n
+room-as e r n u = omega (arith, u .room, as-long e r)
+
 -- ---- the answer
 
-pub refused : (r : Request) (room : List ℕ) {n : ℕ} → n ≡ refusal r (length room) → (n ≡ 0 → ⊥)
-    → (_≡_ {A = Written} record { number = n; length = 0 } (answerTo r room)) × (room ≡ roomAfter r room)
-refused r room e z =
-    let (a, b) = left-alone r room (λ h. z (e ∙ h)) in
-    ((λ i. record { number = e i; length = 0 }) ∙ sym a, sym b)
+module _ (e : Edition) (r : Request) (room : List ℕ) {n : ℕ} (told : n ≡ refusal r (length room)) where
+  pub refused : (n ≡ 0 → ⊥) → (_≡_ {A = Written} record { number = n; length = 0 } (answerAs e r room)) × (room ≡ roomAs e r room)
+  refused z =
+      let (a, b) = left-alone e r room (λ h. z (told ∙ h)) in
+      ((λ i. record { number = told i; length = 0 }) ∙ sym a, sym b)
 
-pub done : (r : Request) (room : List ℕ) {n : ℕ} → n ≡ refusal r (length room) → n ≡ 0 → {after : List ℕ} {k : ℕ} → Wrote room 0 (message r) after k
-    → (_≡_ {A = Written} record { number = n; length = k } (answerTo r room)) × (after ≡ roomAfter r room)
-unfolding answerTo roomAfter
-done r room {n} e z {after} {k} w =
-    let o : refusal r (length room) ≡ 0 = sym e ∙ z in
-    let l : k ≡ length (message r) = w .ends ∙ zero-add (length (message r)) in (
-      (λ i. record { number = z i; length = l i }) ∙ ap (λ m. answerBy m r) (sym o),
-      w .holds ∙ ap (λ m. roomBy m r room) (sym o),
-    )
+  pub done : n ≡ 0 → {after : List ℕ} {k : ℕ} → Wrote room 0 (messageAs e r) after k
+      → (_≡_ {A = Written} record { number = n; length = k } (answerAs e r room)) × (after ≡ roomAs e r room)
+  unfolding answerAs roomAs
+  done z {after} {k} w =
+      let o : refusal r (length room) ≡ 0 = sym told ∙ z in
+      let l : k ≡ length (messageAs e r) = w .ends ∙ zero-add (length (messageAs e r)) in (
+        (λ i. record { number = z i; length = l i }) ∙ ap (λ m. answerBy m e r) (sym o),
+        w .holds ∙ ap (λ m. roomBy m e r room) (sym o),
+      )

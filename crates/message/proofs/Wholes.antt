@@ -18,8 +18,10 @@ use Rattle.calendar.specs.declared.Reading.the-variants.{Time, Nothing}
 use Rattle.calendar.specs.Calendar.{mostSeconds, momentOf}
 use Rattle.calendar.specs.Text.{timeIn, timeText}
 use Rattle.calendar.specs.Back.{time-exactly, text-long}
+use Rattle.message.specs.declared.Edition.{Edition}
+use Rattle.message.specs.declared.Edition.the-variants.{Two}
 use Rattle.message.specs.Request.{Request, countOf, secondsIn, secondsAt}
-use Rattle.message.specs.Message.{entry, says, texts, lineFrom, lines, message}
+use Rattle.message.specs.Message.{entry, says, texts, lineFrom, linesAs, messageAs, message}
 use Rattle.message.specs.Parts.{headerLines, nameLines, timeLines}
 use Rattle.message.specs.Form.{nameHolds}
 use Rattle.message.specs.Refusals.{isSome, isTime, namesHold, settingsHold, endsInTime, wellFormed, allOf, pointHolds, pointsHold}
@@ -99,7 +101,7 @@ pub message-long : (r : Request) → Well r
     → length (message r)
     ≡ 231 + (length (r .originator) + length (r .object) + length (r .id) + length (r .center) + length (r .frame))
     + length (texts (lineFrom (r .tick) (r .step) (r .points) 0) (countOf (r .points)))
-unfolding message ascii
+unfolding messageAs ascii
 message-long r w =
     let f = lineFrom (r .tick) (r .step) (r .points) in
     let alike = as-long (f (secondsIn (r .start))) (f 0)
@@ -107,7 +109,7 @@ message-long r w =
     (countOf (r .points)) in
     omega (
       arith,
-      length-flatten (lines r),
+      length-flatten (linesAs Two r),
       length-says (ascii "CCSDS_OEM_VERS") (ascii "2.0"),
       length-says (ascii "CREATION_DATE") (r .created),
       length-says (ascii "ORIGINATOR") (r .originator),
@@ -131,15 +133,15 @@ unfolding flatten
 flatten-append [] ys = refl
 flatten-append (x ∷ xs) ys = ap (λ t. x ++ t) (flatten-append xs ys) ∙ sym (append-assoc x (flatten xs) (flatten ys))
 
-pub in-parts : (r : Request)
-    → message r
-    ≡ flatten (headerLines (r .created) (r .originator))
+pub in-parts : (e : Edition) (r : Request)
+    → messageAs e r
+    ≡ flatten (headerLines e (r .created) (r .originator))
     ++ (flatten (nameLines (r .object) (r .id) (r .center) (r .frame))
     ++ (flatten (timeLines (secondsAt r 0) (secondsAt r (countOf (r .points) - 1)))
     ++ texts (lineFrom (r .tick) (r .step) (r .points) (secondsIn (r .start))) (countOf (r .points))))
-unfolding message headerLines nameLines timeLines flatten
-in-parts r =
-    let header = headerLines (r .created) (r .originator) in
+unfolding messageAs headerLines nameLines timeLines flatten
+in-parts e r =
+    let header = headerLines e (r .created) (r .originator) in
     let names = nameLines (r .object) (r .id) (r .center) (r .frame) in
     let times = timeLines (secondsAt r 0) (secondsAt r (countOf (r .points) - 1)) in
     let points = texts (lineFrom (r .tick) (r .step) (r .points) (secondsIn (r .start))) (countOf (r .points)) in
@@ -149,20 +151,20 @@ in-parts r =
     ∙ ap (λ t. flatten names ++ t) (flatten-append times (points ∷ []) ∙ ap (λ t. flatten times ++ t) (append-nil points)))
 
 -- how long the parts are
-pub parts-long : (r : Request)
-    → length (message r)
-    ≡ length (flatten (headerLines (r .created) (r .originator)))
+pub parts-long : (e : Edition) (r : Request)
+    → length (messageAs e r)
+    ≡ length (flatten (headerLines e (r .created) (r .originator)))
     + (length (flatten (nameLines (r .object) (r .id) (r .center) (r .frame)))
     + (length (flatten (timeLines (secondsAt r 0) (secondsAt r (countOf (r .points) - 1))))
     + length (texts (lineFrom (r .tick) (r .step) (r .points) (secondsIn (r .start))) (countOf (r .points)))))
-parts-long r =
-    let header = flatten (headerLines (r .created) (r .originator)) in
+parts-long e r =
+    let header = flatten (headerLines e (r .created) (r .originator)) in
     let names = flatten (nameLines (r .object) (r .id) (r .center) (r .frame)) in
     let times = flatten (timeLines (secondsAt r 0) (secondsAt r (countOf (r .points) - 1))) in
     let points = texts (lineFrom (r .tick) (r .step) (r .points) (secondsIn (r .start))) (countOf (r .points)) in
     omega (
       arith,
-      ap length (in-parts r),
+      ap length (in-parts e r),
       length-append header (names ++ (times ++ points)),
       length-append names (times ++ points),
       length-append times points,

@@ -1,4 +1,5 @@
--- A worked message, every character of it, and a request for each refusal. The text is `scripts/leap_day.oem`, which the independent peer wrote.
+-- A worked message in both editions, every character of it, and a request for each refusal.
+-- The texts are `scripts/leap_day.oem` and `scripts/leap_day_newer.oem`, which the independent peer wrote.
 use Prim.Native.Nat.{ℕ, _+_, _*_}
 use Prim.Native.String.{String}
 use mathlib.Core.Bool.{Bool, true, false}
@@ -18,8 +19,11 @@ use Rattle.calendar.specs.Text.{timeText, valueAt as numberAt, momentIn, sameTe
 use Rattle.calendar.specs.Moments.{tested-real, moment-again}
 use Rattle.decimal.specs.Units.{positionUnits, velocityUnits}
 use Rattle.decimal.specs.Text.{fixed, fixedText, digitsBefore, fewDigits}
+use Rattle.message.specs.declared.Edition.{Edition}
+use Rattle.message.specs.declared.Edition.the-variants.{Two, Three}
+use Rattle.message.specs.Editions.{versionOf}
 use Rattle.message.specs.Request.{Request, request, countOf, valueAt, secondsIn, secondsAt}
-use Rattle.message.specs.Message.{entry, says, timeAfter, texts, valueText, field, line, lineFrom, message}
+use Rattle.message.specs.Message.{entry, says, timeAfter, texts, valueText, field, line, lineFrom, messageAs, message}
 use Rattle.message.specs.Form.{hasBetween, allBetween, oneCase, nameHolds}
 use Rattle.message.specs.Refusals.{isTime, namesHold, settingsHold, endsInTime, wellFormed, allOf, exactAt, positionHolds, velocityHolds, holdsAs, valueHolds, pointHolds, pointsHold, rules, refusal}
 
@@ -58,10 +62,10 @@ unfolding leap lengths daysOfMonth sumTo daysOfYear daysBeforeYear daysBeforeMon
 last-time = told lastMoment _ (secondsAt asked 1) refl refl refl
 
 -- the message with its two times left open
-abbrev withTimes : List ℕ → List ℕ → List ℕ
-withTimes first last =
+abbrev withTimes : Edition → List ℕ → List ℕ → List ℕ
+withTimes e first last =
     flatten (
-    says "CCSDS_OEM_VERS" (ascii "2.0")
+    says "CCSDS_OEM_VERS" (versionOf e)
     ∷ says "CREATION_DATE" (asked .created)
     ∷ says "ORIGINATOR" (asked .originator)
     ∷ ascii "META_START\n"
@@ -77,14 +81,14 @@ withTimes first last =
     ∷ []
     )
 
-in-times : message asked ≡ withTimes (timeAfter (secondsAt asked 0)) (timeAfter (secondsAt asked 1))
-unfolding message texts lineFrom line secondsAt countOf
-in-times = refl
+in-times : (e : Edition) → messageAs e asked ≡ withTimes e (timeAfter (secondsAt asked 0)) (timeAfter (secondsAt asked 1))
+unfolding messageAs texts lineFrom line secondsAt countOf
+in-times e = refl
 
-abbrev written-out : List ℕ
-written-out =
-    ascii "CCSDS_OEM_VERS = 2.0\n"
-    ++ ascii "CREATION_DATE = 0004-02-28T12:00:00\n"
+-- every character behind the version line
+abbrev rest : List ℕ
+rest =
+    ascii "CREATION_DATE = 0004-02-28T12:00:00\n"
     ++ ascii "ORIGINATOR = DURUNGKILAT\n"
     ++ ascii "META_START\n"
     ++ ascii "OBJECT_NAME = LOW ORBIT\n"
@@ -98,13 +102,30 @@ written-out =
     ++ ascii "0004-02-28T23:59:30 0.000062 -0.000062 0.000188 0.000001042 -0.000001042 7.291666667\n"
     ++ ascii "0004-02-29T00:00:30 6826.723188 6826.723313 0.000000 0.000000521 -1.041666667 0.000025000\n"
 
-with-times : withTimes (ascii "0004-02-28T23:59:30") (ascii "0004-02-29T00:00:30") ≡ written-out
+abbrev written-out : List ℕ
+written-out = ascii "CCSDS_OEM_VERS = 2.0\n" ++ rest
+
+abbrev written-out-3 : List ℕ
+written-out-3 = ascii "CCSDS_OEM_VERS = 3.0\n" ++ rest
+
+abbrev outOf : Edition → List ℕ
+outOf Two = written-out
+outOf Three = written-out-3
+
+with-times : (e : Edition) → withTimes e (ascii "0004-02-28T23:59:30") (ascii "0004-02-29T00:00:30") ≡ outOf e
 unfolding positionUnits velocityUnits nearestOf numerator fixedText fixed lastDigits decimal digits ascii flatten entry texts field valueText valueAt
-with-times = refl
+with-times Two = refl
+with-times Three = refl
 
 -- the whole message
+written-as : (e : Edition) → messageAs e asked ≡ outOf e
+written-as e = in-times e ∙ ap₂ (withTimes e) first-time last-time ∙ with-times e
+
 pub as-written : message asked ≡ written-out
-as-written = in-times ∙ ap₂ withTimes first-time last-time ∙ with-times
+as-written = written-as Two
+
+pub as-written-3 : messageAs Three asked ≡ written-out-3
+as-written-3 = written-as Three
 
 -- ---- refusals
 

@@ -10,6 +10,9 @@ use Rattle.text.specs.Numbers.{ascii}
 use Rattle.calendar.specs.Calendar.{momentOf}
 use Rattle.calendar.specs.Text.{timeText}
 use Rattle.decimal.specs.Text.{positionText, velocityText}
+use Rattle.message.specs.declared.Edition.{Edition}
+use Rattle.message.specs.declared.Edition.the-variants.{Two}
+use Rattle.message.specs.Editions.{versionOf}
 use Rattle.message.specs.Request.{Request, countOf, place, valueAt, secondsAt, secondsIn}
 
 -- ---- lines of the header and the metadata
@@ -50,9 +53,10 @@ module _ (tick step : ℕ) (points : List ℤ) where
 
 -- ---- the message
 
-abbrev pub lines : Request → List (List ℕ)
-lines r =
-    says "CCSDS_OEM_VERS" (ascii "2.0")
+-- of an edition: only the version differs
+abbrev pub linesAs : Edition → Request → List (List ℕ)
+linesAs e r =
+    says "CCSDS_OEM_VERS" (versionOf e)
     ∷ says "CREATION_DATE" (r .created)
     ∷ says "ORIGINATOR" (r .originator)
     ∷ ascii "META_START\n"
@@ -67,5 +71,9 @@ lines r =
     ∷ texts (lineFrom (r .tick) (r .step) (r .points) (secondsIn (r .start))) (countOf (r .points))
     ∷ []
 
-unfoldable pub message : Request → List ℕ
-message r = flatten (lines r)
+unfoldable pub messageAs : Edition → Request → List ℕ
+messageAs e r = flatten (linesAs e r)
+
+-- of version 2.0
+abbrev pub message : Request → List ℕ
+message r = messageAs Two r

@@ -2,10 +2,12 @@
 use Prim.Native.Nat.{ℕ}
 use mathlib.Core.List.{List, [], _∷_}
 use Rattle.text.specs.Numbers.{ascii}
+use Rattle.message.specs.declared.Edition.{Edition}
+use Rattle.message.specs.Editions.{versionOf}
 use Rattle.message.specs.Message.{says, timeAfter}
 
-unfoldable pub headerLines : List ℕ → List ℕ → List (List ℕ)
-headerLines created originator = says "CCSDS_OEM_VERS" (ascii "2.0") ∷ says "CREATION_DATE" created ∷ says "ORIGINATOR" originator ∷ []
+unfoldable pub headerLines : Edition → List ℕ → List ℕ → List (List ℕ)
+headerLines e created originator = says "CCSDS_OEM_VERS" (versionOf e) ∷ says "CREATION_DATE" created ∷ says "ORIGINATOR" originator ∷ []
 
 unfoldable pub nameLines : List ℕ → List ℕ → List ℕ → List ℕ → List (List ℕ)
 nameLines object id center frame =

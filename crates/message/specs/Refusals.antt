@@ -84,7 +84,7 @@ module _ (tick step : ℕ) (points : List ℤ) where
 unfoldable pub pointsHold : ℕ → ℕ → List ℤ → Bool
 pointsHold tick step points = eqb (length points % 12) 0 and allOf (pointHolds tick step points) (countOf points)
 
--- ---- the rules
+-- ---- the rules: a message of either edition is as long as that of version 2.0, so 12 is one rule (`as-long` in Laws)
 
 abbrev pub rules : Request → ℕ → List (Bool × ℕ)
 rules r room =

@@ -7,10 +7,12 @@ ghost use lib.ListN.{length};
 ghost use Rattle.text.specs.Places.{Wrote, Room};
 ghost use Rattle.calendar.specs.Calendar.{mostSeconds};
 ghost use Rattle.message.specs.Request.{request};
-ghost use Rattle.message.specs.Message.{message};
+ghost use Rattle.message.specs.Editions.{versionOf};
+ghost use Rattle.message.specs.Message.{says, messageAs};
 ghost use Rattle.message.specs.Parts.{headerLines, nameLines, timeLines};
 ghost use Rattle.message.specs.Refusals.{wellFormed, pointsHold};
-ghost use Rattle.message.specs.Answer.{answerTo, roomAfter};
+ghost use Rattle.message.specs.Answer.{answerAs, roomAs, answerTo, roomAfter};
+use crate::Edition;
 use crate::Written;
 use crate::forms::seconds_in;
 use crate::lines::put_entry;
@@ -20,11 +22,27 @@ use crate::refusals::last_point;
 use crate::refusals::refusal_of;
 use text::put_word;
 
-fn put_header(out: &mut [u8], at: usize, created: &[u8], originator: &[u8]) -> usize
-    requires { ⌜ Room (now out) at (headerLines (now created) (now originator)) ⌝ }
-    ensures { λ r. ⌜ Wrote (now (out .entry)) at (flatten (headerLines (now (created .entry)) (now (originator .entry)))) (now (out .exit)) r ⌝ }
+fn put_version(out: &mut [u8], at: usize, edition: Edition) -> usize
+    requires { ⌜ at + length (says "CCSDS_OEM_VERS" (versionOf edition)) ≤ length (now out) ⌝ }
+    ensures { λ r. ⌜ Wrote (now (out .entry)) at (says "CCSDS_OEM_VERS" (versionOf edition)) (now (out .exit)) r ⌝ }
 {
-    let a = put_entry(out, at, b"CCSDS_OEM_VERS", b"2.0");
+    match edition {
+        Edition::Two => put_word(out, at, b"CCSDS_OEM_VERS = 2.0\n"),
+        Edition::Three => put_word(out, at, b"CCSDS_OEM_VERS = 3.0\n"),
+    }
+}
+
+fn put_header(
+    out: &mut [u8],
+    at: usize,
+    edition: Edition,
+    created: &[u8],
+    originator: &[u8],
+) -> usize
+    requires { ⌜ Room (now out) at (headerLines edition (now created) (now originator)) ⌝ }
+    ensures { λ r. ⌜ Wrote (now (out .entry)) at (flatten (headerLines edition (now (created .entry)) (now (originator .entry)))) (now (out .exit)) r ⌝ }
+{
+    let a = put_version(out, at, edition);
     let b = put_entry(out, a, b"CREATION_DATE", created);
     put_entry(out, b, b"ORIGINATOR", originator)
 }
@@ -60,6 +78,7 @@ fn put_times(out: &mut [u8], at: usize, first: u64, last: u64) -> usize
 
 fn put_message(
     out: &mut [u8],
+    edition: Edition,
     originator: &[u8],
     object: &[u8],
     id: &[u8],
@@ -73,19 +92,21 @@ fn put_message(
 ) -> usize
     requires { ⌜ wellFormed (request (now originator) (now object) (now id) (now center) (now frame) (now created) (now start) tick step (now points)) ≡ true ⌝ }
     requires { ⌜ pointsHold tick step (now points) ≡ true ⌝ }
-    requires { ⌜ length (message (request (now originator) (now object) (now id) (now center) (now frame) (now created) (now start) tick step (now points))) ≤ length (now out) ⌝ }
-    ensures { λ r. ⌜ Wrote (now (out .entry)) 0 (message (request (now (originator .entry)) (now (object .entry)) (now (id .entry)) (now (center .entry)) (now (frame .entry)) (now (created .entry)) (now (start .entry)) tick step (now (points .entry)))) (now (out .exit)) r ⌝ }
+    requires { ⌜ length (messageAs edition (request (now originator) (now object) (now id) (now center) (now frame) (now created) (now start) tick step (now points))) ≤ length (now out) ⌝ }
+    ensures { λ r. ⌜ Wrote (now (out .entry)) 0 (messageAs edition (request (now (originator .entry)) (now (object .entry)) (now (id .entry)) (now (center .entry)) (now (frame .entry)) (now (created .entry)) (now (start .entry)) tick step (now (points .entry)))) (now (out .exit)) r ⌝ }
 {
     let first = seconds_in(start);
     let last = first + last_point(points.len()) * step;
-    let a = put_header(out, 0, created, originator);
+    let a = put_header(out, 0, edition, created, originator);
     let b = put_names(out, a, object, id, center, frame);
     let c = put_times(out, b, first, last);
     put_lines(out, c, points, first, tick, step)
 }
 
-pub fn write_message(
+// A message of an edition.
+pub fn write_edition(
     out: &mut [u8],
+    edition: Edition,
     originator: &[u8],
     object: &[u8],
     id: &[u8],
@@ -97,7 +118,7 @@ pub fn write_message(
     step: u64,
     points: &[i64],
 ) -> Written
-    ensures { λ r. ⌜ (r ≡ answerTo (request (now (originator .entry)) (now (object .entry)) (now (id .entry)) (now (center .entry)) (now (frame .entry)) (now (created .entry)) (now (start .entry)) tick step (now (points .entry))) (now (out .entry))) × (now (out .exit) ≡ roomAfter (request (now (originator .entry)) (now (object .entry)) (now (id .entry)) (now (center .entry)) (now (frame .entry)) (now (created .entry)) (now (start .entry)) tick step (now (points .entry))) (now (out .entry))) ⌝ }
+    ensures { λ r. ⌜ (r ≡ answerAs edition (request (now (originator .entry)) (now (object .entry)) (now (id .entry)) (now (center .entry)) (now (frame .entry)) (now (created .entry)) (now (start .entry)) tick step (now (points .entry))) (now (out .entry))) × (now (out .exit) ≡ roomAs edition (request (now (originator .entry)) (now (object .entry)) (now (id .entry)) (now (center .entry)) (now (frame .entry)) (now (created .entry)) (now (start .entry)) tick step (now (points .entry))) (now (out .entry))) ⌝ }
 {
     let number = refusal_of(
         out.len(),
@@ -117,6 +138,7 @@ pub fn write_message(
     }
     let length = put_message(
         out,
+        edition,
         originator,
         object,
         id,
@@ -129,4 +151,36 @@ pub fn write_message(
         points,
     );
     Written { number, length }
+}
+
+// A message of version 2.0.
+pub fn write_message(
+    out: &mut [u8],
+    originator: &[u8],
+    object: &[u8],
+    id: &[u8],
+    center: &[u8],
+    frame: &[u8],
+    created: &[u8],
+    start: &[u8],
+    tick: u64,
+    step: u64,
+    points: &[i64],
+) -> Written
+    ensures { λ r. ⌜ (r ≡ answerTo (request (now (originator .entry)) (now (object .entry)) (now (id .entry)) (now (center .entry)) (now (frame .entry)) (now (created .entry)) (now (start .entry)) tick step (now (points .entry))) (now (out .entry))) × (now (out .exit) ≡ roomAfter (request (now (originator .entry)) (now (object .entry)) (now (id .entry)) (now (center .entry)) (now (frame .entry)) (now (created .entry)) (now (start .entry)) tick step (now (points .entry))) (now (out .entry))) ⌝ }
+{
+    write_edition(
+        out,
+        Edition::Two,
+        originator,
+        object,
+        id,
+        center,
+        frame,
+        created,
+        start,
+        tick,
+        step,
+        points,
+    )
 }

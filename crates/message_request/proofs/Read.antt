@@ -1,15 +1,19 @@
 -- What is read from a place on, by what the tests say of it.
 use mathlib.Core.Path.{_≡_, refl, sym, _∙_, ap}
-use mathlib.Core.Bool.{true, false}
+use mathlib.Core.Bool.{true, false, not}
 use mathlib.Core.List.{List}
 use Prim.Native.Nat.{ℕ, zero, suc}
+use native.Mathlib.Omega.{arith}
+use borrow.Author.Tests.{ne-eqb}
+use lib.Dec.{eqb}
 use Rattle.text.specs.Numbers.{ascii}
 use Rattle.text.specs.Reading.{decimalAt, signedAt}
 use Rattle.text.specs.declared.Unsigned.the-variants.{Number}
 use Rattle.message_request.specs.declared.Place.{Place}
 use Rattle.message_request.specs.declared.Rest.{Rest}
-use Rattle.message_request.specs.Lines.{pastWord, lineEnd, after, begun, goodAt, noRest, restLine, noNatural, naturalOf, naturalLine}
+use Rattle.message_request.specs.Lines.{pastWord, lineEnd, after, begun, goodAt, stoppedAt, noRest, restLine, noNatural, naturalOf, naturalLine}
 use Rattle.message_request.specs.Points.{noWhole, wholeOf, wholeAt}
+use Rattle.message_request.specs.Requests.{noVersion, versionFrom, versionLine}
 
 -- ---- from a place k that is j: it is 0, and it is not
 
@@ -78,6 +82,25 @@ module _ (text : List ℕ) (p : Place) (value : ℕ) (end : ℕ) {next : ℕ} (d
   pub natural-end : (next ≡ 0 → ⊥) → record { value = value; next = goodAt next } ≡ naturalOf text p (Number value end)
   unfolding naturalOf
   natural-end n = goes (noNatural p) (λ k. record { value = value; next = goodAt k }) d n refl
+
+-- ---- the line of an edition
+
+next-line : (next : ℕ) → _≡_ {A = Place} record { at = next; good = not (eqb next 0) } (after next (stoppedAt (goodAt 0)) goodAt)
+unfolding after
+next-line zero = refl
+next-line (suc k) = ap (λ b. record { at = suc k; good = not b }) (ne-eqb (suc k) 0 (λ h. omega (arith, h)))
+
+module _ (text : List ℕ) {from : ℕ} (e : from ≡ pastWord text 0 (ascii "edition ")) where
+  pub no-version : from ≡ 0 → noVersion ≡ versionLine text
+  unfolding versionLine
+  no-version z = stops noVersion (versionFrom text) e z
+
+  pub a-version : (from ≡ 0 → ⊥) → {end : ℕ} → end ≡ lineEnd text from → {next : ℕ} → next ≡ pastWord text end (ascii "\n")
+      → _≡_ {A = Rest} record { from = from; end = end; next = record { at = next; good = not (eqb next 0) } } (versionLine text)
+  unfolding versionLine
+  a-version n l {next} d =
+      let p = next-line next ∙ ap (λ k. after k (stoppedAt (goodAt 0)) goodAt) (d ∙ ap (λ k. pastWord text k (ascii "\n")) l) in
+      goes noVersion (versionFrom text) e n (λ i. record { from = from; end = l i; next = p i })
 
 -- ---- a number after a space
 

@@ -39,17 +39,17 @@ module _ (text : List ℕ) (p : Place) {tick step room : Natural} (a : tick ≡ 
       → _≡_ {A = Settings} record { tick = tick .value; step = step .value; roomed = room .next .good; room = room .value; next = step .next } (settingsAt text p)
   without-room g = settings-by (rw g refl)
 
-module _ (text : List ℕ) (numbers : List ℤ) {names : Names} (a : names ≡ namesIn text) {settings : Settings} (b : settings ≡ settingsAt text (names .start .next)) where
-  settled : settings ≡ settingsAt text (namesIn text .start .next)
+module _ (text : List ℕ) (p : Place) (numbers : List ℤ) {names : Names} (a : names ≡ namesIn text p) {settings : Settings} (b : settings ≡ settingsAt text (names .start .next)) where
+  settled : settings ≡ settingsAt text (namesIn text p .start .next)
   settled = b ∙ ap (λ w. settingsAt text (w .start .next)) a
 
   pub asked : {points : Points} → points ≡ pointsOf (keptAt text (settings .next) (length numbers))
-      → _≡_ {A = Asked} record { outcome = points .outcome; names = names; settings = settings; count = points .count } (askedIn text (length numbers))
+      → _≡_ {A = Asked} record { outcome = points .outcome; names = names; settings = settings; count = points .count } (askedIn text p (length numbers))
   unfolding askedIn keptIn
   asked d =
       let e = d ∙ ap (λ w. pointsOf (keptAt text (w .next) (length numbers))) settled in
       λ i. record { outcome = e i .outcome; names = a i; settings = settled i; count = e i .count }
 
-  pub after : {last : List ℤ} → last ≡ over (keptAt text (settings .next) (length numbers)) numbers → last ≡ numbersAfter text numbers
+  pub after : {last : List ℤ} → last ≡ over (keptAt text (settings .next) (length numbers)) numbers → last ≡ numbersAfter text p numbers
   unfolding numbersAfter keptIn
   after d = d ∙ ap (λ w. over (keptAt text (w .next) (length numbers)) numbers) settled

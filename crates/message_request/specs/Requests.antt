@@ -6,15 +6,33 @@ use lib.IntN.{ℤ}
 use lib.ListN.{length}
 use Rattle.text.specs.Numbers.{ascii}
 use Rattle.message_request.specs.declared.Place.{Place}
+use Rattle.message_request.specs.declared.Rest.{Rest}
 use Rattle.message_request.specs.declared.Names.{Names}
 use Rattle.message_request.specs.declared.Settings.{Settings}
 use Rattle.message_request.specs.declared.Asked.{Asked}
-use Rattle.message_request.specs.Lines.{goodAt, restLine, naturalLine}
+use Rattle.message_request.specs.Lines.{pastWord, lineEnd, after, goodAt, stoppedAt, restLine, naturalLine}
 use Rattle.message_request.specs.Points.{keptAt, over, Kept}
 
-unfoldable pub namesIn : List ℕ → Names
-namesIn text =
-    let created = restLine text (goodAt 0) (ascii "created ") in
+-- a line of an edition may stand first: its value, up to the newline or to the end of the text, and where the next line stands.
+-- Without a newline it is no line of a request.
+abbrev pub noVersion : Rest
+noVersion = record { from = 0; end = 0; next = goodAt 0 }
+
+abbrev pub versionFrom : List ℕ → ℕ → Rest
+versionFrom text from =
+    record {
+      from = from;
+      end = lineEnd text from;
+      next = after (pastWord text (lineEnd text from) (ascii "\n")) (stoppedAt (goodAt 0)) goodAt;
+    }
+
+unfoldable pub versionLine : List ℕ → Rest
+versionLine text = after (pastWord text 0 (ascii "edition ")) noVersion (versionFrom text)
+
+-- the lines from a place on
+unfoldable pub namesIn : List ℕ → Place → Names
+namesIn text p =
+    let created = restLine text p (ascii "created ") in
     let originator = restLine text (created .next) (ascii "originator ") in
     let object = restLine text (originator .next) (ascii "object ") in
     let id = restLine text (object .next) (ascii "id ") in
@@ -46,17 +64,17 @@ settingsAt text p =
     }
 
 -- where so many numbers can be kept
-unfoldable pub keptIn : List ℕ → ℕ → Kept
-keptIn text room = keptAt text (settingsAt text (namesIn text .start .next) .next) room
+unfoldable pub keptIn : List ℕ → Place → ℕ → Kept
+keptIn text p room = keptAt text (settingsAt text (namesIn text p .start .next) .next) room
 
-unfoldable pub askedIn : List ℕ → ℕ → Asked
-askedIn text room =
+unfoldable pub askedIn : List ℕ → Place → ℕ → Asked
+askedIn text p room =
     record {
-      outcome = keptIn text room .outcome;
-      names = namesIn text;
-      settings = settingsAt text (namesIn text .start .next);
-      count = length (keptIn text room .numbers);
+      outcome = keptIn text p room .outcome;
+      names = namesIn text p;
+      settings = settingsAt text (namesIn text p .start .next);
+      count = length (keptIn text p room .numbers);
     }
 
-unfoldable pub numbersAfter : List ℕ → List ℤ → List ℤ
-numbersAfter text numbers = over (keptIn text (length numbers)) numbers
+unfoldable pub numbersAfter : List ℕ → Place → List ℤ → List ℤ
+numbersAfter text p numbers = over (keptIn text p (length numbers)) numbers

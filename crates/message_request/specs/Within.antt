@@ -1,18 +1,19 @@
--- What the names of a request are of the text: each is a part of it, whatever the text is.
+-- What the names of a request and the value of an edition are of the text: each is a part of it, whatever the text is.
 use Prim.Native.Nat.{ℕ, zero, suc, _≤_}
 use mathlib.Core.Path.{_≡_, refl}
-use mathlib.Core.Bool.{Bool, true, false}
-use mathlib.Core.List.{List}
+use mathlib.Core.Bool.{Bool, true, false, cond}
+use mathlib.Core.List.{List, [], _∷_}
 use native.Mathlib.Omega.{arith}
-use lib.Dec.{leb}
-use lib.ListN.{length, drop-of-length-le}
+use lib.Dec.{leb, eqb}
+use lib.ListN.{length, drop, length-drop, drop-of-length-le}
 use borrow.Author.Tests.{leb-true, leb-false}
+use Rattle.integers.specs.Tests.{joined, clash}
 use Rattle.text.specs.Numbers.{ascii}
 use Rattle.message_request.specs.declared.Place.{Place}
 use Rattle.message_request.specs.declared.Rest.{Rest}
 use Rattle.message_request.specs.declared.Names.{Names}
-use Rattle.message_request.specs.Lines.{begins, pastWord, lineEnd, after, begun, noRest, restLine, goodAt}
-use Rattle.message_request.specs.Requests.{namesIn}
+use Rattle.message_request.specs.Lines.{begins, pastWord, beforeNewline, lineEnd, after, begun, noRest, restLine, goodAt}
+use Rattle.message_request.specs.Requests.{noVersion, versionFrom, versionLine, namesIn}
 
 pub record Within (text : List ℕ) (rest : Rest) : Type 0 where
   pub starts : rest .from ≤ rest .end
@@ -64,9 +65,9 @@ module _ (text : List ℕ) (p : Place) where
   unfolding restLine
   rest-within word = begun-within (begun text p word)
 
-pub names-within : (text : List ℕ) → AllWithin text (namesIn text)
+pub names-within : (text : List ℕ) (p : Place) → AllWithin text (namesIn text p)
 unfolding namesIn
-names-within text =
+names-within text p =
     record {
       created = rest-within text _ _;
       originator = rest-within text _ _;
@@ -76,3 +77,30 @@ names-within text =
       frame = rest-within text _ _;
       start = rest-within text _ _;
     }
+
+-- ---- the value of an edition
+
+before-within : (text : List ℕ) → beforeNewline text ≤ length text
+unfolding beforeNewline
+before-within [] = omega arith
+before-within (b ∷ text) = by (eqb b 10) (before-within text)
+  where
+    by : (t : Bool) → beforeNewline text ≤ length text → cond t 0 (suc (beforeNewline text)) ≤ suc (length text)
+    by true h = omega arith
+    by false h = omega (arith, h)
+
+begins-within : (text word : List ℕ) → begins text word ≡ true → length word ≤ length text
+unfolding begins
+begins-within text [] h = omega arith
+begins-within [] (w ∷ word) h = clash h refl
+begins-within (b ∷ text) (w ∷ word) h = let (_, l) = simp joined at h in omega (arith, begins-within text word l)
+
+pub version-within : (text : List ℕ) → Within text (versionLine text)
+unfolding versionLine pastWord after lineEnd ascii
+version-within text = by (begins text (ascii "edition ")) refl
+  where
+    by : (t : Bool) → begins text (ascii "edition ") ≡ t → Within text (after (cond t 8 0) noVersion (versionFrom text))
+    by true e =
+        let l = begins-within text (ascii "edition ") e in
+        record { starts = omega arith; ends = omega (arith, l, before-within (drop 8 text), length-drop 8 text) }
+    by false e = record { starts = omega arith; ends = omega arith }

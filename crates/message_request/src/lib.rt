@@ -4,6 +4,7 @@ mod points;
 mod requests;
 
 pub use requests::read_request;
+pub use requests::read_version;
 
 // Where a line stands, and whether all lines before it are as they have to be.
 pub struct Place {

@@ -39,7 +39,7 @@ pub(crate) fn past_word(text: &[u8], at: usize, word: &[u8]) -> usize
 }
 
 // The place of the first newline from a place on; where there is none, the end of the text.
-fn line_end(text: &[u8], from: usize) -> usize
+pub(crate) fn line_end(text: &[u8], from: usize) -> usize
     ensures { λ r. ⌜ r ≡ lineEnd (now (text .entry)) from ⌝ }
 {
     let mut i = from;

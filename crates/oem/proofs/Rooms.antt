@@ -8,13 +8,15 @@ use lib.ListN.{length, drop, length-append}
 use lib.Seq.{take-at}
 use borrow.Author.Tests.{leb-true}
 use Rattle.integers.specs.Tests.{joined}
+use Rattle.message.specs.declared.Edition.{Edition}
 use Rattle.received.specs.declared.Mended.{Mended}
+use Rattle.received.specs.Versions.{isOther}
 use Rattle.received.specs.Mending.{Change, Mend, Mends, Cannot, mendOf, words}
 use Rattle.received.specs.MendAnswer.{unmended, hasRooms, mendedBy, outBy, changesBy, mendedTo, outAfter, changesAfter}
-use Rattle.reports.specs.Reports.{changesText, refusedLine, listOf, listBy}
+use Rattle.reports.specs.Reports.{changesText, refusedLine, listOf, listBy as allListed}
 use Rattle.reports.specs.Listed.{as-listed}
 use Rattle.oem.specs.Answers.{Says}
-use Rattle.oem.specs.Mended.{mendedText, listText}
+use Rattle.oem.specs.Mended.{textBy, listBy, mendedText, listText}
 
 words-long : (changes : List Change) → length (words changes) ≡ 2 * length changes
 unfolding flatten
@@ -42,7 +44,7 @@ module _ (out changes : List ℕ) where
   count-within Cannot = omega arith
   count-within (Mends lines list) = count-by lines list (hasRooms lines list (length out) (length changes)) refl
 
-  text-said : (m : Mend) → Says (outBy m out changes) (mendedBy m out changes .length) (mendedText m (length out) (length changes))
+  text-said : (m : Mend) → Says (outBy m out changes) (mendedBy m out changes .length) (textBy m (length out) (length changes))
   text-said Cannot = nothing-said out
   text-said (Mends lines list) = by (hasRooms lines list (length out) (length changes))
     where
@@ -52,8 +54,8 @@ module _ (out changes : List ℕ) where
       by true = said-first (flatten lines) (drop (length (flatten lines)) out)
       by false = nothing-said out
 
-  list-said : (m : Mend) → listOf (mendedBy m out changes .number) (changesBy m out changes) (mendedBy m out changes .changes) ≡ listText m (length out) (length changes)
-  unfolding listOf listBy
+  list-said : (m : Mend) → listOf (mendedBy m out changes .number) (changesBy m out changes) (mendedBy m out changes .changes) ≡ listBy m (length out) (length changes)
+  unfolding listOf allListed
   list-said Cannot = refl
   list-said (Mends lines list) = by (hasRooms lines list (length out) (length changes))
     where
@@ -65,17 +67,34 @@ module _ (out changes : List ℕ) where
       by true = as-listed lines list (drop (length (words list)) changes)
       by false = refl
 
-  -- the same of a text
-  module _ (text : List ℕ) where
-    pub count-fits : 2 * mendedTo text out changes .changes ≤ length changes
+  -- the same of a text, by an edition
+  module _ (e : Edition) (text : List ℕ) where
+    pub count-fits : 2 * mendedTo e text out changes .changes ≤ length changes
     unfolding mendedTo
-    count-fits = count-within (mendOf text)
+    count-fits = by (isOther e text)
+      where
+        by : (t : Bool) → 2 * cond t (unmended 17) (mendedBy (mendOf e text) out changes) .changes ≤ length changes
+        by true = omega arith
+        by false = count-within (mendOf e text)
 
-    pub mended-said : Says (outAfter text out changes) (mendedTo text out changes .length) (mendedText (mendOf text) (length out) (length changes))
-    unfolding mendedTo outAfter
-    mended-said = text-said (mendOf text)
+    pub mended-said : Says (outAfter e text out changes) (mendedTo e text out changes .length) (mendedText e text (length out) (length changes))
+    unfolding mendedTo outAfter mendedText
+    mended-said = by (isOther e text)
+      where
+        by : (t : Bool)
+            → Says (cond t out (outBy (mendOf e text) out changes)) (cond t (unmended 17) (mendedBy (mendOf e text) out changes) .length)
+            (cond t [] (textBy (mendOf e text) (length out) (length changes)))
+        by true = nothing-said out
+        by false = text-said (mendOf e text)
 
-    pub listed : listOf (mendedTo text out changes .number) (changesAfter text out changes) (mendedTo text out changes .changes)
-        ≡ listText (mendOf text) (length out) (length changes)
-    unfolding mendedTo changesAfter
-    listed = list-said (mendOf text)
+    pub listed : listOf (mendedTo e text out changes .number) (changesAfter e text out changes) (mendedTo e text out changes .changes)
+        ≡ listText e text (length out) (length changes)
+    unfolding mendedTo changesAfter listText listOf
+    listed = by (isOther e text)
+      where
+        by : (t : Bool)
+            → listOf (cond t (unmended 17) (mendedBy (mendOf e text) out changes) .number) (cond t changes (changesBy (mendOf e text) out changes))
+            (cond t (unmended 17) (mendedBy (mendOf e text) out changes) .changes)
+            ≡ cond t (flatten (refusedLine 17)) (listBy (mendOf e text) (length out) (length changes))
+        by true = refl
+        by false = list-said (mendOf e text)

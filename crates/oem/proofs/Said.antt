@@ -12,12 +12,13 @@ use Rattle.text.specs.Digits.{length-decimal}
 use Rattle.text.specs.Places.{Wrote, written}
 use Rattle.text.specs.Pieces.{up-to-end}
 use Rattle.message.specs.declared.Written.{Written}
+use Rattle.message.specs.declared.Edition.{Edition}
 use Rattle.message.specs.Request.{Request}
-use Rattle.message.specs.Message.{message}
+use Rattle.message.specs.Message.{messageAs}
 use Rattle.message.specs.Refusals.{refusal}
-use Rattle.message.specs.Answer.{answerBy, roomBy, answerTo, roomAfter}
+use Rattle.message.specs.Answer.{answerBy, roomBy, answerAs, roomAs}
 use Rattle.message_request.specs.declared.Settings.{Settings}
-use Rattle.oem.specs.Answers.{Says, lineWith, roomFor, messageBy, messageOr}
+use Rattle.oem.specs.Answers.{Says, refusedBy, roomFor, messageBy, messageOr}
 
 -- ---- what was written from the start
 
@@ -67,25 +68,24 @@ message-first text room rest =
       holds = take-append-le (length text) (text ++ behind) rest (omega (arith, l)) ∙ take-at text behind (length text) refl;
     }
 
-module _ (r : Request) (room : List ℕ) where
-  wrote-by : (n : ℕ) {w : Written} {after : List ℕ} (rest : List ℕ) → w ≡ answerBy n r → after ≡ roomBy n r room → w .number ≡ 0
-      → Says (after ++ rest) (w .length) (messageBy n r)
-  wrote-by zero {w} {after} rest e a z =
-      let f = message-first (message r) room rest in
-      let l : w .length ≡ length (message r) = ap (λ v. v .length) e in
+module _ (e : Edition) (r : Request) (room : List ℕ) where
+  wrote-by : (n : ℕ) {w : Written} {after : List ℕ} (rest : List ℕ) → w ≡ answerBy n e r → after ≡ roomBy n e r room → w .number ≡ 0
+      → Says (after ++ rest) (w .length) (messageBy n e r)
+  wrote-by zero {w} {after} rest q a z =
+      let f = message-first (messageAs e r) room rest in
+      let l : w .length ≡ length (messageAs e r) = ap (λ v. v .length) q in
       rw (l, a) f
-  wrote-by (suc n) {w} rest e a z = let y : w .number ≡ suc n = ap (λ v. v .number) e in absurd (omega arith)
+  wrote-by (suc n) {w} rest q a z = let y : w .number ≡ suc n = ap (λ v. v .number) q in absurd (omega arith)
 
-  refused-by : (n : ℕ) {w : Written} → w ≡ answerBy n r → (w .number ≡ 0 → ⊥) → flatten (lineWith (ascii "refused ") (w .number) (ascii "\n")) ≡ messageBy n r
-  refused-by zero e z = absurd (z (ap (λ v. v .number) e))
-  refused-by (suc n) e z = ap (λ v. flatten (lineWith (ascii "refused ") (v .number) (ascii "\n"))) e
+  refused-by : (n : ℕ) {w : Written} → w ≡ answerBy n e r → (w .number ≡ 0 → ⊥) → refusedBy (w .number) ≡ messageBy n e r
+  refused-by zero q z = absurd (z (ap (λ v. v .number) q))
+  refused-by (suc n) q z = ap (λ v. refusedBy (v .number)) q
 
-  pub wrote : {w : Written} {after : List ℕ} (rest : List ℕ) → w ≡ answerTo r room → after ≡ roomAfter r room → w .number ≡ 0
-      → Says (after ++ rest) (w .length) (messageOr r (length room))
-  unfolding answerTo roomAfter messageOr
-  wrote rest e a z = wrote-by (refusal r (length room)) rest e a z
+  pub wrote : {w : Written} {after : List ℕ} (rest : List ℕ) → w ≡ answerAs e r room → after ≡ roomAs e r room → w .number ≡ 0
+      → Says (after ++ rest) (w .length) (messageOr e r (length room))
+  unfolding answerAs roomAs messageOr
+  wrote rest q a z = wrote-by (refusal r (length room)) rest q a z
 
-  pub refused : {w : Written} → w ≡ answerTo r room → (w .number ≡ 0 → ⊥)
-      → flatten (lineWith (ascii "refused ") (w .number) (ascii "\n")) ≡ messageOr r (length room)
-  unfolding answerTo messageOr
-  refused e z = refused-by (refusal r (length room)) e z
+  pub refused : {w : Written} → w ≡ answerAs e r room → (w .number ≡ 0 → ⊥) → refusedBy (w .number) ≡ messageOr e r (length room)
+  unfolding answerAs messageOr
+  refused q z = refused-by (refusal r (length room)) q z

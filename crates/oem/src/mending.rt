@@ -9,7 +9,7 @@ ghost use mathlib.Core.Path.{_≡_};
 ghost use Prim.Native.Nat.{_+_, _*_, _≤_};
 ghost use lib.ListN.{length};
 ghost use Rattle.reports.specs.Reports.{listOf};
-ghost use Rattle.received.specs.Mending.{mendOf};
+ghost use Rattle.received.specs.Versions.{editionIn};
 ghost use Rattle.oem.specs.Answers.{Says};
 ghost use Rattle.oem.specs.Mended.{mendedText, listText};
 
@@ -39,8 +39,8 @@ pub(crate) struct Done {
 // The mended message from the start of one buffer, and the list from the start of another.
 fn mend(text: &[u8], mended: &mut [u8], changes: &mut [u64], list: &mut [u8]) -> Done
     requires { ⌜ 32 + 16 * length (now changes) ≤ length (now list) ⌝ }
-    ensures { λ r. ⌜ Says (now (mended .exit)) (r .written) (mendedText (mendOf (now (text .entry))) (length (now (mended .entry))) (length (now (changes .entry)))) ⌝ }
-    ensures { λ r. ⌜ Says (now (list .exit)) (r .listed) (listText (mendOf (now (text .entry))) (length (now (mended .entry))) (length (now (changes .entry)))) ⌝ }
+    ensures { λ r. ⌜ Says (now (mended .exit)) (r .written) (mendedText (editionIn (now (text .entry))) (now (text .entry)) (length (now (mended .entry))) (length (now (changes .entry)))) ⌝ }
+    ensures { λ r. ⌜ Says (now (list .exit)) (r .listed) (listText (editionIn (now (text .entry))) (now (text .entry)) (length (now (mended .entry))) (length (now (changes .entry)))) ⌝ }
 {
     let done = mend_message(text, mended, changes);
     let written = done.length;

@@ -1,7 +1,7 @@
 // `oem read`: a message is read, and what it says or the one line that refuses it is printed.
 use crate::output::put;
 use crate::reading::read_all;
-use received::read_message;
+use received::read_either;
 use reports::put_report;
 ghost use mathlib.Core.Path.{_≡_};
 ghost use Prim.Native.Nat.{_≤_};
@@ -24,7 +24,7 @@ fn report(text: &[u8], epochs: &mut [u64], values: &mut [i64], out: &mut [u8]) -
     requires { ⌜ (length (now epochs) ≡ 13253) × (length (now values) ≡ 79518) ⌝ }
     ensures { λ r. ⌜ Says (now (out .exit)) r (readText (now (text .entry))) ⌝ }
 {
-    let received = read_message(text, epochs, values);
+    let received = read_either(text, epochs, values);
     put_report(out, text, received, epochs, values)
 }
 

@@ -6,6 +6,7 @@ use Prim.Native.Nat.{ℕ, _+_}
 use lib.ListN.{length, take, set}
 use Rattle.calendar.specs.Text.{sameText}
 use Rattle.message.specs.Message.{says, timeAfter}
+use Rattle.message.specs.declared.Edition.{Edition}
 use Rattle.received.specs.Lines.{linesIn}
 use Rattle.received.specs.Slots.{Walked, Through, Stopped, walk}
 use Rattle.received.specs.Profile.{slots}
@@ -71,9 +72,9 @@ same-read (Through groups rest) = by (allRead (pointsIn 0 rest) rest) refl
     by true t = same-behind groups rest (pointsIn 0 rest) (all-of-them rest t .1)
     by false t = rw t refl
 
-pub read-bytes : (text : List ℕ) {r : Read} → readBytes (walk slots (linesIn text)) ≡ r → readOf text ≡ r
+pub read-bytes : (e : Edition) (text : List ℕ) {r : Read} → readBytes (walk (slots e) (linesIn text)) ≡ r → readOf e text ≡ r
 unfolding readOf readLines
-read-bytes text e = same-read (walk slots (linesIn text)) ∙ e
+read-bytes e text q = same-read (walk (slots e) (linesIn text)) ∙ q
 
 -- ---- mending
 
@@ -106,6 +107,6 @@ unfolding mendBy
 same-mend (Stopped lines) = refl
 same-mend (Through groups rest) = same-some groups rest (keptOf 0 rest) (kept-points 0 rest)
 
-pub mend-bytes : (text : List ℕ) {m : Mend} → mendBytes (walk slots (linesIn text)) ≡ m → mendOf text ≡ m
+pub mend-bytes : (e : Edition) (text : List ℕ) {m : Mend} → mendBytes (walk (slots e) (linesIn text)) ≡ m → mendOf e text ≡ m
 unfolding mendOf
-mend-bytes text e = same-mend (walk slots (linesIn text)) ∙ e
+mend-bytes e text q = same-mend (walk (slots e) (linesIn text)) ∙ q

@@ -8,6 +8,7 @@ use native.Mathlib.Omega.{arith}
 use lib.ListN.{length, length-append, length-map}
 use Rattle.calendar.specs.Back.{same-refl}
 use Rattle.message.specs.Message.{says, timeAfter}
+use Rattle.message.specs.declared.Edition.{Edition}
 use Rattle.received.specs.Lines.{linesIn}
 use Rattle.received.specs.Slots.{walk}
 use Rattle.received.specs.Profile.{slots}
@@ -26,15 +27,15 @@ use Rattle.readable.proofs.Mending.{linesOut, changesOut, changesOf, me
 use Rattle.readable.proofs.Listing.{same-value, lists-settle, lists, numbers-rise, one-listed}
 use Rattle.readable.proofs.Readers.{ownParts, own-but, says-lines}
 
-module _ (text : List ℕ) (out : List (List ℕ)) (changes : List Change) (e : mendOf text ≡ Mends out changes) where
-  abbrev m : Done text
-  m = mending text out changes e
+module _ (e : Edition) (text : List ℕ) (out : List (List ℕ)) (changes : List Change) (q : mendOf e text ≡ Mends out changes) where
+  abbrev m : Done e text
+  m = mending e text out changes q
 
-  out-is : out ≡ linesOf (messageOf (m .head) (m .points))
-  out-is = ap linesOut (sym e ∙ m .gives)
+  out-is : out ≡ linesOf e (messageOf (m .head) (m .points))
+  out-is = ap linesOut (sym q ∙ m .gives)
 
   changes-are : changes ≡ changesOf (m .head) (m .points) (m .rest)
-  changes-are = ap changesOut (sym e ∙ m .gives)
+  changes-are = ap changesOut (sym q ∙ m .gives)
 
   start-lists :
       Lists (says "START_TIME" (m .head .start .0)) (says "START_TIME" (timeAfter (firstSeconds (m .points))))
@@ -46,7 +47,7 @@ module _ (text : List ℕ) (out : List (List ℕ)) (changes : List Change) (e : 
       (change (numberAt (headFrom (m .head)) stopSlot) 3) (timeChange (headFrom (m .head)) stopSlot 3 (lastSeconds (m .points)))
   stop-lists = lists (m .head) stopSlot "STOP_TIME" (m .head .stop .0) (stop-found (m .head)) (lastSeconds (m .points)) 3
 
-  pub mended : Mended text out changes
+  pub mended : Mended e text out changes
   mended =
       let number = numberAt (headFrom (m .head)) dataSlot in
       let others = dropsFrom number 0 (m .rest) in
@@ -72,10 +73,10 @@ module _ (text : List ℕ) (out : List (List ℕ)) (changes : List Change) (e : 
         stopListed = stop-lists;
       }
 
-  says-out : Says (flatten out) (messageOf (m .head) (m .points))
+  says-out : Says e (flatten out) (messageOf (m .head) (m .points))
   says-out = record { holds = holds-of (m .head) (m .points) (m .good); text-is = ap flatten out-is }
 
-  pub mended-readable : Readable (flatten out)
+  pub mended-readable : Readable e (flatten out)
   mended-readable = (messageOf (m .head) (m .points), says-out)
 
   -- the lines that come out are the lines of their text
@@ -95,25 +96,25 @@ module _ (text : List ℕ) (out : List (List ℕ)) (changes : List Change) (e : 
       (one-listed 1 (numberAt (headFrom (m .head)) stopSlot) _ _ _ start (stop ++ others) start-lists (omega arith) k last)
 
 -- and this settles what comes out and what is listed
-pub mended-so : (text : List ℕ) (out : List (List ℕ)) (changes : List Change) → Mended text out changes → mendOf text ≡ Mends out changes
+pub mended-so : (e : Edition) (text : List ℕ) (out : List (List ℕ)) (changes : List Change) → Mended e text out changes → mendOf e text ≡ Mends out changes
 unfolding mendOf mendBy
-mended-so text out changes n =
+mended-so e text out changes n =
     let m = n .message in
     let h = n .holds in
     let p = partsOf m h (n .start) (n .stop) (n .start-holds) (n .stop-holds) in
     let (kept, others) = keeps-settles (n .keeps) in
     let start = lists-settle p startSlot "START_TIME" (n .start) (start-found p) (firstSeconds (m .points)) 2 (n .startChange) (n .startListed) in
     let stop = lists-settle p stopSlot "STOP_TIME" (n .stop) (stop-found p) (lastSeconds (m .points)) 3 (n .stopChange) (n .stopListed) in
-    ap (λ x. mendBy (walk slots x)) (n .stood)
+    ap (λ x. mendBy (walk (slots e) x)) (n .stood)
     ∙ ap mendBy (walk-head p (n .rest) (clear-head-of p (n .rest) (comments-past (n .rest) (n .no-comment))))
     ∙ mend-some p (n .rest) (m .points) (h .some) kept (all-kept 0 0 (m .points) (h .points) (h .rising) .2)
     ∙ ap₂ Mends (sym (n .comes-out)) ((λ i. start i ++ (stop i ++ others i)) ∙ sym (n .listed))
 
 -- ---- a readable text
 
-pub unchanged : (text : List ℕ) → Readable text → mendOf text ≡ Mends (linesIn text) []
+pub unchanged : (e : Edition) (text : List ℕ) → Readable e text → mendOf e text ≡ Mends (linesIn text) []
 unfolding mendOf mendBy timeChange
-unchanged text (n, s) =
+unchanged e text (n, s) =
     let h = s .holds in
     let p = ownParts n h in
     let b = own-but n h in
@@ -122,13 +123,13 @@ unchanged text (n, s) =
     let (k, d, q) = all-kept (numberAt (headFrom p) dataSlot) 0 (n .points) (h .points) (h .rising) in
     let listed : changesOf p (n .points) rest ≡ [] =
     rw (start-found p, stop-found p, same-refl (timeAfter (firstSeconds (n .points))), same-refl (timeAfter (lastSeconds (n .points)))) d in
-    ap (λ x. mendBy (walk slots x)) lines
-    ∙ ap mendBy (walk-but (linesOf n) b)
+    ap (λ x. mendBy (walk (slots e) x)) lines
+    ∙ ap mendBy (walk-but (linesOf e n) b)
     ∙ mend-some p rest (n .points) (h .some) k q
     ∙ ap₂ Mends (sym lines) listed
 
-pub twice : (text : List ℕ) (out : List (List ℕ)) (changes : List Change) → mendOf text ≡ Mends out changes → mendOf (flatten out) ≡ Mends out []
-twice text out changes e = unchanged (flatten out) (mended-readable text out changes e) ∙ ap (λ x. Mends x []) (out-found text out changes e)
+pub twice : (e : Edition) (text : List ℕ) (out : List (List ℕ)) (changes : List Change) → mendOf e text ≡ Mends out changes → mendOf e (flatten out) ≡ Mends out []
+twice e text out changes q = unchanged e (flatten out) (mended-readable e text out changes q) ∙ ap (λ x. Mends x []) (out-found e text out changes q)
 
 -- ---- an empty list
 
@@ -142,9 +143,9 @@ not-listed : (keyword : String) (stood out : List ℕ) (entry : Change) (changes
 not-listed keyword stood out entry changes (inl (e, _)) h = same-value keyword stood out e
 not-listed keyword stood out entry changes (inr (_, e)) h = absurd (omega (arith, h, ap length e))
 
-pub none-listed : (text : List ℕ) (out : List (List ℕ)) → mendOf text ≡ Mends out [] → flatten out ≡ text
-none-listed text out e =
-    let n = mended text out [] e in
+pub none-listed : (e : Edition) (text : List ℕ) (out : List (List ℕ)) → mendOf e text ≡ Mends out [] → flatten out ≡ text
+none-listed e text out q =
+    let n = mended e text out [] q in
     let counts = ap length (n .listed) in
     let whole = length-append (n .startChange) (n .stopChange ++ map drop-of (n .dropped)) in
     let part = length-append (n .stopChange) (map drop-of (n .dropped)) in
@@ -153,5 +154,5 @@ none-listed text out e =
     let start = not-listed "START_TIME" _ _ _ (n .startChange) (n .startListed) (omega (arith, counts, whole, part, others)) in
     let stop = not-listed "STOP_TIME" _ _ _ (n .stopChange) (n .stopListed) (omega (arith, counts, whole, part, others)) in
     let same : linesIn text ≡ out =
-    n .stood ∙ ap₂ (λ x y. flatten (headOf (n .message) x y) ++ n .rest) start stop ∙ ap (λ x. flatten (headIn (n .message)) ++ x) (sym kept) ∙ sym (n .comes-out) in
+    n .stood ∙ ap₂ (λ x y. flatten (headOf e (n .message) x y) ++ n .rest) start stop ∙ ap (λ x. flatten (headIn e (n .message)) ++ x) (sym kept) ∙ sym (n .comes-out) in
     ap flatten (sym same) ∙ together text

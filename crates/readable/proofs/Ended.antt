@@ -1,6 +1,6 @@
 -- Every line of a message ends in its only newline: all characters before it are printable.
 use mathlib.Core.Path.{_≡_, refl, sym, subst}
-use mathlib.Core.Bool.{true}
+use mathlib.Core.Bool.{Bool, true}
 use mathlib.Core.List.{List, [], _∷_, _++_, flatten, map, append-assoc}
 use Prim.Native.Nat.{ℕ, zero, suc, _+_, _/_, _%_, _^_, _<_, _≤_}
 use Prim.Native.String.{String}
@@ -21,10 +21,13 @@ use Rattle.message.specs.Message.{says, timeAfter, texts}
 use Rattle.message.specs.Form.{allBetween, nameHolds}
 use Rattle.message.specs.Request.{secondsIn}
 use Rattle.message.specs.Refusals.{isTime}
+use Rattle.message.specs.declared.Edition.{Edition}
+use Rattle.message.specs.declared.Edition.the-variants.{Two, Three}
+use Rattle.message.specs.Editions.{versionOf}
 use Rattle.received.specs.Slots.{lineWith}
-use Rattle.received.specs.Profile.{printable, isRemark, anyValue}
+use Rattle.received.specs.Profile.{printable, isText, isRemark, anyValue, hasMore}
 use Rattle.received.specs.Data.{Point, decimalsOf, fieldOf, dataLine, lineOf}
-use Rattle.received.specs.Messages.{Every, IsPoint, Remarks, comment}
+use Rattle.received.specs.Messages.{Every, IsPoint, Remarks, Further, comment}
 use Rattle.readable.specs.Lines.{Plain, IsLine}
 use Rattle.readable.proofs.Fields.{size-fits}
 use Rattle.readable.proofs.Points.{every-at, time-told}
@@ -127,37 +130,58 @@ unfolding allBetween ascii
 comments-end [] h = tt
 comments-end (r ∷ remarks) h = (line-with (ascii "COMMENT") r (shows (ascii "COMMENT") refl) (remark-plain r (h .0)), comments-end remarks (h .1))
 
-pub head-ends : (p : Parts) → Every (Every IsLine) (headFrom p)
+text-plain : (front : ℕ) (s : List ℕ) → isText front s ≡ true → Plain s
+unfolding isText
+text-plain front s h = let (_, (p, _)) = simp joined at h in printable-plain front s p
+
+further-end : (may : Bool) (keyword : String) (values : List (List ℕ)) → allBetween 32 126 (ascii keyword ++ ascii " = ") ≡ true → Further may keyword values
+    → Every IsLine (map (says keyword) values)
+further-end may keyword [] k h = tt
+further-end may keyword (value ∷ []) k h = (says-ends keyword value k (text-plain (length (ascii keyword) + 3) value (h .1)), tt)
+further-end may keyword (value ∷ more ∷ values) k h = absurd h
+
+pub version-plain : (e : Edition) → Plain (versionOf e)
 unfolding allBetween ascii
-head-ends p = (
-  (says-ends "CCSDS_OEM_VERS" (ascii "2.0") refl (shows (ascii "2.0") refl), tt),
+version-plain Two = shows (ascii "2.0") refl
+version-plain Three = shows (ascii "3.0") refl
+
+pub head-ends : {e : Edition} (p : Parts e) → Every (Every IsLine) (headFrom p)
+unfolding allBetween ascii
+head-ends {e} p = (
+  (says-ends "CCSDS_OEM_VERS" (versionOf e) refl (version-plain e), tt),
   (
     comments-end (p .onMessage .0) (p .onMessage .1),
     (
-      (says-ends "CREATION_DATE" (p .created .0) refl (time-plain (p .created .0) (p .created .1)), tt),
+      further-end (hasMore e) "CLASSIFICATION" (p .classification .0) refl (p .classification .1),
       (
-        (says-ends "ORIGINATOR" (p .originator .0) refl (name-plain 10 (p .originator .0) (p .originator .1)), tt),
+        (says-ends "CREATION_DATE" (p .created .0) refl (time-plain (p .created .0) (p .created .1)), tt),
         (
-          (record { body = ascii "META_START"; plain = shows (ascii "META_START") refl; line-is = refl }, tt),
+          (says-ends "ORIGINATOR" (p .originator .0) refl (name-plain 10 (p .originator .0) (p .originator .1)), tt),
           (
-            comments-end (p .onObject .0) (p .onObject .1),
+            further-end (hasMore e) "MESSAGE_ID" (p .identifier .0) refl (p .identifier .1),
             (
-              (says-ends "OBJECT_NAME" (p .object .0) refl (name-plain 11 (p .object .0) (p .object .1)), tt),
+              (record { body = ascii "META_START"; plain = shows (ascii "META_START") refl; line-is = refl }, tt),
               (
-                (says-ends "OBJECT_ID" (p .id .0) refl (name-plain 9 (p .id .0) (p .id .1)), tt),
+                comments-end (p .onObject .0) (p .onObject .1),
                 (
-                  (says-ends "CENTER_NAME" (p .center .0) refl (name-plain 11 (p .center .0) (p .center .1)), tt),
+                  (says-ends "OBJECT_NAME" (p .object .0) refl (name-plain 11 (p .object .0) (p .object .1)), tt),
                   (
-                    (says-ends "REF_FRAME" (p .frame .0) refl (name-plain 9 (p .frame .0) (p .frame .1)), tt),
+                    (says-ends "OBJECT_ID" (p .id .0) refl (name-plain 9 (p .id .0) (p .id .1)), tt),
                     (
-                      (says-ends "TIME_SYSTEM" (ascii "TAI") refl (shows (ascii "TAI") refl), tt),
+                      (says-ends "CENTER_NAME" (p .center .0) refl (name-plain 11 (p .center .0) (p .center .1)), tt),
                       (
-                        (says-ends "START_TIME" (p .start .0) refl (printable-plain 13 (p .start .0) (p .start .1)), tt),
+                        (says-ends "REF_FRAME" (p .frame .0) refl (name-plain 9 (p .frame .0) (p .frame .1)), tt),
                         (
-                          (says-ends "STOP_TIME" (p .stop .0) refl (printable-plain 12 (p .stop .0) (p .stop .1)), tt),
+                          (says-ends "TIME_SYSTEM" (ascii "TAI") refl (shows (ascii "TAI") refl), tt),
                           (
-                            (record { body = ascii "META_STOP"; plain = shows (ascii "META_STOP") refl; line-is = refl }, tt),
-                            (comments-end (p .onData .0) (p .onData .1), tt),
+                            (says-ends "START_TIME" (p .start .0) refl (printable-plain 13 (p .start .0) (p .start .1)), tt),
+                            (
+                              (says-ends "STOP_TIME" (p .stop .0) refl (printable-plain 12 (p .stop .0) (p .stop .1)), tt),
+                              (
+                                (record { body = ascii "META_STOP"; plain = shows (ascii "META_STOP") refl; line-is = refl }, tt),
+                                (comments-end (p .onData .0) (p .onData .1), tt),
+                              ),
+                            ),
                           ),
                         ),
                       ),

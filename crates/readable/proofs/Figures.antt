@@ -12,7 +12,7 @@ use Rattle.message.specs.Form.{hasBetween, allBetween, oneCase, nameHolds}
 use Rattle.message.specs.Message.{entry}
 use Rattle.message.specs.Refusals.{isTime}
 use Rattle.received.specs.Lines.{inFront, linesIn}
-use Rattle.received.specs.Slots.{restIn, hasFront, isOf, leading, behind, after, walk}
+use Rattle.received.specs.Slots.{restIn, hasFront, isOf, leading, behind, firstOf, pastFirst, after, walk}
 use Rattle.received.specs.Profile.{printable, isRemark}
 use Rattle.received.specs.Data.{fieldBy, fieldAt, fieldStart, valueIn, firstOnes, datumIn, pointsIn, keptOf}
 use Rattle.received.specs.Reading.{lineAt, restAt, numberAt, unless, allRead, messageIn}
@@ -25,11 +25,11 @@ unfolding ascii restIn lineAt restAt messageIn
 as-found = (refl, tt)
 
 pub as-read : All readings
-unfolding flatten ascii decimal digits lastDigits goingOn decimalIn decimalAt notBelow below leap lengths daysOfMonth sumTo daysOfYear daysBeforeYear daysBeforeMonth isReal daysOf secondsOf timeText valueAt momentIn sameText timeIn digitsBefore fewDigits moreDigits afterWhole withDecimals sizeAt fixedAt hasBetween allBetween oneCase nameHolds isTime inFront linesIn restIn hasFront isOf leading behind after walk printable isRemark fieldBy fieldAt fieldStart valueIn firstOnes datumIn pointsIn lineAt restAt numberAt unless allRead
+unfolding flatten ascii decimal digits lastDigits goingOn decimalIn decimalAt notBelow below leap lengths daysOfMonth sumTo daysOfYear daysBeforeYear daysBeforeMonth isReal daysOf secondsOf timeText valueAt momentIn sameText timeIn digitsBefore fewDigits moreDigits afterWhole withDecimals sizeAt fixedAt hasBetween allBetween oneCase nameHolds isTime inFront linesIn restIn hasFront isOf leading behind firstOf pastFirst after walk printable isRemark fieldBy fieldAt fieldStart valueIn firstOnes datumIn pointsIn lineAt restAt numberAt unless allRead
 as-read =
-    (read-bytes _ refl, (read-bytes _ refl, (read-bytes _ refl, (read-bytes _ refl, (read-bytes _ refl, (read-bytes _ refl, (read-bytes _ refl, (read-bytes _ refl, (read-bytes _ refl, (read-bytes _ refl, (read-bytes _ refl, (read-bytes _ refl, (read-bytes _ refl, (read-bytes _ refl, (read-bytes _ refl, (read-bytes _ refl, (read-bytes _ refl, (read-bytes _ refl, (read-bytes _ refl, (read-bytes _ refl, (read-bytes _ refl, (read-bytes _ refl, tt))))))))))))))))))))))
+    (read-bytes _ _ refl, (read-bytes _ _ refl, (read-bytes _ _ refl, (read-bytes _ _ refl, (read-bytes _ _ refl, (read-bytes _ _ refl, (read-bytes _ _ refl, (read-bytes _ _ refl, (read-bytes _ _ refl, (read-bytes _ _ refl, (read-bytes _ _ refl, (read-bytes _ _ refl, (read-bytes _ _ refl, (read-bytes _ _ refl, (read-bytes _ _ refl, (read-bytes _ _ refl, (read-bytes _ _ refl, (read-bytes _ _ refl, (read-bytes _ _ refl, (read-bytes _ _ refl, (read-bytes _ _ refl, (read-bytes _ _ refl, tt))))))))))))))))))))))
 
 pub as-mended : All mendings
-unfolding flatten ascii decimal digits lastDigits goingOn decimalIn decimalAt notBelow below leap lengths daysOfMonth sumTo daysOfYear daysBeforeYear daysBeforeMonth isReal daysOf secondsOf timeText valueAt momentIn sameText timeIn digitsBefore fewDigits moreDigits afterWhole withDecimals sizeAt fixedAt hasBetween allBetween oneCase nameHolds isTime inFront linesIn restIn hasFront isOf leading behind after walk printable isRemark fieldBy fieldAt fieldStart valueIn firstOnes datumIn keptOf lineAt restAt numberAt entry dropsFrom
+unfolding flatten ascii decimal digits lastDigits goingOn decimalIn decimalAt notBelow below leap lengths daysOfMonth sumTo daysOfYear daysBeforeYear daysBeforeMonth isReal daysOf secondsOf timeText valueAt momentIn sameText timeIn digitsBefore fewDigits moreDigits afterWhole withDecimals sizeAt fixedAt hasBetween allBetween oneCase nameHolds isTime inFront linesIn restIn hasFront isOf leading behind firstOf pastFirst after walk printable isRemark fieldBy fieldAt fieldStart valueIn firstOnes datumIn keptOf lineAt restAt numberAt entry dropsFrom
 as-mended =
-    (mend-bytes _ refl, (mend-bytes _ refl, (mend-bytes _ refl, (mend-bytes _ refl, (mend-bytes _ refl, (mend-bytes _ refl, (mend-bytes _ refl, (mend-bytes _ refl, (mend-bytes _ refl, (mend-bytes _ refl, tt))))))))))
+    (mend-bytes _ _ refl, (mend-bytes _ _ refl, (mend-bytes _ _ refl, (mend-bytes _ _ refl, (mend-bytes _ _ refl, (mend-bytes _ _ refl, (mend-bytes _ _ refl, (mend-bytes _ _ refl, (mend-bytes _ _ refl, (mend-bytes _ _ refl, tt))))))))))

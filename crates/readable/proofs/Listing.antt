@@ -12,6 +12,7 @@ use Rattle.calendar.specs.Text.{sameText}
 use Rattle.calendar.specs.Back.{same-true, same-refl}
 use Rattle.message.specs.Message.{says, timeAfter}
 use Rattle.text.specs.Numbers.{ascii}
+use Rattle.message.specs.declared.Edition.{Edition}
 use Rattle.received.specs.Slots.{restIn}
 use Rattle.received.specs.Reading.{startSlot, stopSlot, dataSlot, restAt, numberAt}
 use Rattle.received.specs.Mending.{Change, change, timeChange}
@@ -25,7 +26,7 @@ pub same-value : (keyword : String) (value other : List ℕ) → says keyword va
 same-value keyword value other e =
     sym (rest-says keyword value) ∙ ap (λ l. restIn (ascii keyword ++ ascii " = ") l) e ∙ rest-says keyword other
 
-module _ (p : Parts) (slot : ℕ) (keyword : String) (value : List ℕ) (found : restAt (headFrom p) slot ≡ value) (seconds what : ℕ) where
+module _ {e : Edition} (p : Parts e) (slot : ℕ) (keyword : String) (value : List ℕ) (found : restAt (headFrom p) slot ≡ value) (seconds what : ℕ) where
   pub lists-settle : (changes : List Change) → Lists (says keyword value) (says keyword (timeAfter seconds)) (change (numberAt (headFrom p) slot) what) changes
       → timeChange (headFrom p) slot what seconds ≡ changes
   unfolding timeChange
@@ -54,14 +55,14 @@ module _ (p : Parts) (slot : ℕ) (keyword : String) (value : List ℕ) (found :
           )
 
 -- the lines of the two times and the first data line, one behind the other
-pub numbers-rise : (p : Parts) → (numberAt (headFrom p) startSlot < numberAt (headFrom p) stopSlot) × (numberAt (headFrom p) stopSlot < numberAt (headFrom p) dataSlot)
+pub numbers-rise : {e : Edition} (p : Parts e) → (numberAt (headFrom p) startSlot < numberAt (headFrom p) stopSlot) × (numberAt (headFrom p) stopSlot < numberAt (headFrom p) dataSlot)
 unfolding numberAt flatten
 numbers-rise p =
     let head = headFrom p in
-    let start = flat-append (take 11 head) ((says "START_TIME" (p .start .0) ∷ []) ∷ []) in
-    let stop = flat-append (take 12 head) (drop 12 head) in (
-      omega (arith, ap length start, length-append (flatten (take 11 head)) (flatten ((says "START_TIME" (p .start .0) ∷ []) ∷ []))),
-      omega (arith, ap length stop, length-append (flatten (take 12 head)) (flatten (drop 12 head))),
+    let start = flat-append (take 13 head) ((says "START_TIME" (p .start .0) ∷ []) ∷ []) in
+    let stop = flat-append (take 14 head) (drop 14 head) in (
+      omega (arith, ap length start, length-append (flatten (take 13 head)) (flatten ((says "START_TIME" (p .start .0) ∷ []) ∷ []))),
+      omega (arith, ap length stop, length-append (flatten (take 14 head)) (flatten (drop 14 head))),
     )
 
 -- a change that may be listed, before others

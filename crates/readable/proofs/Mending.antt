@@ -5,6 +5,7 @@ use Prim.Native.Nat.{ℕ, _<_}
 use native.Mathlib.Omega.{arith}
 use lib.ListN.{length}
 use Rattle.integers.specs.Tests.{clash, fails}
+use Rattle.message.specs.declared.Edition.{Edition}
 use Rattle.received.specs.Lines.{linesIn}
 use Rattle.received.specs.Slots.{isOf, Through, walk}
 use Rattle.received.specs.Profile.{commentForm, slots}
@@ -38,13 +39,13 @@ changesOut Cannot = []
 
 -- ---- what comes out
 
-abbrev pub changesOf : Parts → List Point → List (List ℕ) → List Change
+abbrev pub changesOf : {e : Edition} → Parts e → List Point → List (List ℕ) → List Change
 changesOf p points rest =
     timeChange (headFrom p) startSlot 2 (firstSeconds points)
     ++ (timeChange (headFrom p) stopSlot 3 (lastSeconds points) ++ dropsFrom (numberAt (headFrom p) dataSlot) 0 rest)
 
-pub mend-some : (p : Parts) (rest : List (List ℕ)) (points : List Point) → 0 < length points → keptOf 0 rest ≡ map lineOf points → map pointIn (map lineOf points) ≡ points
-    → mendWith (headFrom p) rest (keptOf 0 rest) ≡ Mends (linesOf (messageOf p points)) (changesOf p points rest)
+pub mend-some : {e : Edition} (p : Parts e) (rest : List (List ℕ)) (points : List Point) → 0 < length points → keptOf 0 rest ≡ map lineOf points → map pointIn (map lineOf points) ≡ points
+    → mendWith (headFrom p) rest (keptOf 0 rest) ≡ Mends (linesOf e (messageOf p points)) (changesOf p points rest)
 unfolding mendWith
 mend-some p rest [] l e s = absurd (omega arith)
 mend-some p rest (q ∷ points) l e s =
@@ -52,30 +53,30 @@ mend-some p rest (q ∷ points) l e s =
     ∙ ap (λ found. Mends (flatten (withTimes (headFrom p) (firstSeconds found) (lastSeconds found)) ++ map lineOf (q ∷ points)) (changesOf p found rest)) s
 
 -- lines that are mended
-pub record Done (text : List ℕ) : Type 0 where
-  pub head : Parts
+pub record Done (e : Edition) (text : List ℕ) : Type 0 where
+  pub head : Parts e
   pub rest : List (List ℕ)
   pub points : List Point
   pub good : Good points
   pub lines-are : linesIn text ≡ flatten (headFrom head) ++ rest
   pub past : Past commentForm rest
   pub kept-are : keptOf 0 rest ≡ map lineOf points
-  pub gives : mendOf text ≡ Mends (linesOf (messageOf head points)) (changesOf head points rest)
+  pub gives : mendOf e text ≡ Mends (linesOf e (messageOf head points)) (changesOf head points rest)
 
-pub data Either (text : List ℕ) : Type 0 where
-  mends : Done text → Either text
-  stays : mendOf text ≡ Cannot → Either text
+pub data Either (e : Edition) (text : List ℕ) : Type 0 where
+  mends : Done e text → Either e text
+  stays : mendOf e text ≡ Cannot → Either e text
 
-pub either : (text : List ℕ) → Either text
+pub either : (e : Edition) (text : List ℕ) → Either e text
 unfolding mendOf mendBy mendWith flatten
-either text = by (outcome (linesIn text))
+either e text = by (outcome e (linesIn text))
   where
-    behind : (p : Parts) (rest : List (List ℕ)) → walk slots (linesIn text) ≡ Through (headFrom p) rest → linesIn text ≡ flatten (headFrom p) ++ rest → Past commentForm rest
-        → (kept : List (List ℕ)) → keptOf 0 rest ≡ kept → KeptAs 0 kept (map pointIn kept) → Either text
-    behind p rest w l c [] e k = stays (ap mendBy w ∙ ap (mendWith (headFrom p) rest) e)
-    behind p rest w l c (line ∷ lines) e k =
+    behind : (p : Parts e) (rest : List (List ℕ)) → walk (slots e) (linesIn text) ≡ Through (headFrom p) rest → linesIn text ≡ flatten (headFrom p) ++ rest → Past commentForm rest
+        → (kept : List (List ℕ)) → keptOf 0 rest ≡ kept → KeptAs 0 kept (map pointIn kept) → Either e text
+    behind p rest w l c [] q k = stays (ap mendBy w ∙ ap (mendWith (headFrom p) rest) q)
+    behind p rest w l c (line ∷ lines) q k =
         let points = map pointIn (line ∷ lines) in
-        let kept : keptOf 0 rest ≡ map lineOf points = e ∙ k .lines-are in
+        let kept : keptOf 0 rest ≡ map lineOf points = q ∙ k .lines-are in
         let same = all-kept 0 0 points (k .are-points) (k .rising) .2 in
         mends (record {
           head = p;
@@ -88,9 +89,9 @@ either text = by (outcome (linesIn text))
           gives = ap mendBy w ∙ mend-some p rest points (omega arith) kept same;
         })
 
-    by : Outcome (linesIn text) → Either text
+    by : Outcome e (linesIn text) → Either e text
     by (halts before w h) = stays (ap mendBy w)
-    by (goes p rest w l c) = behind p rest w l (c .1 .1 .0) (keptOf 0 rest) refl (kept-points 0 rest)
+    by (goes p rest w l c) = behind p rest w l (c .1 .1 .1 .1 .0) (keptOf 0 rest) refl (kept-points 0 rest)
 
 -- a first line is of the form of comments exactly where it is a comment
 pub past-comments : (lines : List (List ℕ)) → Past commentForm lines → NoComment lines
@@ -102,9 +103,9 @@ comments-past [] h = tt
 comments-past (line ∷ lines) h = fails (isOf commentForm line) (λ t. let (e, q) = form-of commentForm line t in h (_, (q, e)))
 
 -- a text that gives lines and changes is mended
-pub mending : (text : List ℕ) (out : List (List ℕ)) (changes : List Change) → mendOf text ≡ Mends out changes → Done text
-mending text out changes e = by (either text)
+pub mending : (e : Edition) (text : List ℕ) (out : List (List ℕ)) (changes : List Change) → mendOf e text ≡ Mends out changes → Done e text
+mending e text out changes q = by (either e text)
   where
-    by : Either text → Done text
+    by : Either e text → Done e text
     by (mends m) = m
-    by (stays s) = not-cannot (sym e ∙ s)
+    by (stays s) = not-cannot (sym q ∙ s)

@@ -11,13 +11,14 @@ use Rattle.text.specs.Numbers.{ascii, lastDigits}
 use Rattle.calendar.specs.Calendar.{momentOf}
 use Rattle.calendar.specs.Text.{sameText, timeText}
 use Rattle.message.specs.Message.{entry, says, timeAfter}
-use Rattle.received.specs.Slots.{hasFront, isOf, FillAll, Walked, Through, Stopped, walk}
-use Rattle.received.specs.Profile.{commentForm, slots}
+use Rattle.message.specs.declared.Edition.{Edition}
+use Rattle.received.specs.Slots.{Form, hasFront, isOf, FillAll, Walked, Through, Stopped, walk}
+use Rattle.received.specs.Profile.{saying, textBehind, commentForm, hasMore, slots}
 use Rattle.received.specs.Data.{Point, dataLine, lineOf, pointsIn, firstSeconds, lastSeconds}
 use Rattle.received.specs.Messages.{Every, IsPoint, Rising, Holds, ButForTimes}
 use Rattle.received.specs.Reading.{Read, Reads, Stops, startSlot, stopSlot, dataSlot, numberAt, unless, allRead, readBehind, readBy, readLines}
 use Rattle.readable.proofs.Forms.{form-of, groups-fill, fill-groups}
-use Rattle.readable.proofs.Walks.{Past, Clear, goes-through, Halts, Means, walk-means}
+use Rattle.readable.proofs.Walks.{Past, Done, Clear, goes-through, Halts, Means, walk-means}
 use Rattle.readable.proofs.Runs.{runs, all-points}
 use Rattle.readable.proofs.Heads.{Parts, messageOf, partsOf, headFrom, parts, rests, head-is, start-found, stop-found}
 
@@ -48,9 +49,39 @@ object-no-comment : (value : List ℕ) → isOf commentForm (says "OBJECT_NAME" 
 unfolding isOf hasFront sameText entry flatten ascii
 object-no-comment value = refl
 
-pub clear-head-of : (p : Parts) (rest : List (List ℕ)) → Past commentForm rest → Clear slots (headFrom p) rest
+class-no-comment : (value : List ℕ) → isOf commentForm (says "CLASSIFICATION" value) ≡ false
+unfolding isOf hasFront sameText entry flatten ascii
+class-no-comment value = refl
+
+class-past : (values : List (List ℕ)) (line : List ℕ) (more rest : List (List ℕ)) → isOf commentForm line ≡ false
+    → Past commentForm ((map (says "CLASSIFICATION") values ++ (line ∷ more)) ++ rest)
+class-past [] line more rest h = h
+class-past (value ∷ values) line more rest h = class-no-comment value
+
+-- ---- nor of the form of a line that is left out before it
+
+created-no-class : (value : List ℕ) → isOf (saying "CLASSIFICATION" (textBehind "CLASSIFICATION")) (says "CREATION_DATE" value) ≡ false
+unfolding isOf hasFront sameText entry flatten ascii
+created-no-class value = refl
+
+start-no-id : isOf (saying "MESSAGE_ID" (textBehind "MESSAGE_ID")) (ascii "META_START\n") ≡ false
+unfolding isOf hasFront sameText ascii
+start-no-id = refl
+
+done-by : (may : Bool) (f : Form) (group : List (List ℕ)) (line : List ℕ) (lines : List (List ℕ)) → isOf f line ≡ false → Done may f group (line ∷ lines)
+done-by false f group line lines h = tt
+done-by true f [] line lines h = h
+done-by true f (g ∷ group) line lines h = tt
+
+pub clear-head-of : {e : Edition} (p : Parts e) (rest : List (List ℕ)) → Past commentForm rest → Clear (slots e) (headFrom p) rest
 unfolding flatten
-clear-head-of p rest h = (created-no-comment (p .created .0), (object-no-comment (p .object .0), (h, tt)))
+clear-head-of {e} p rest h = (
+  class-past (p .classification .0) _ _ rest (created-no-comment (p .created .0)),
+  (
+    done-by (hasMore e) _ (map (says "CLASSIFICATION") (p .classification .0)) _ _ (created-no-class (p .created .0)),
+    (done-by (hasMore e) _ (map (says "MESSAGE_ID") (p .identifier .0)) _ _ start-no-id, (object-no-comment (p .object .0), (h, tt))),
+  ),
+)
 
 -- ---- points that a message may have
 
@@ -59,12 +90,14 @@ pub record Good (points : List Point) : Type 0 where
   pub are-points : Every IsPoint points
   pub rising : Rising 0 points
 
-pub holds-of : (p : Parts) (points : List Point) → Good points → Holds (messageOf p points)
+pub holds-of : {e : Edition} (p : Parts e) (points : List Point) → Good points → Holds e (messageOf p points)
 holds-of p points g =
     record {
       onMessage = p .onMessage .1;
+      classification = p .classification .1;
       created = p .created .1;
       originator = p .originator .1;
+      identifier = p .identifier .1;
       onObject = p .onObject .1;
       object = p .object .1;
       id = p .id .1;
@@ -76,17 +109,17 @@ holds-of p points g =
       rising = g .rising;
     }
 
-abbrev pub linesFrom : Parts → List Point → List (List ℕ)
+abbrev pub linesFrom : {e : Edition} → Parts e → List Point → List (List ℕ)
 linesFrom p points = flatten (headFrom p) ++ map lineOf points
 
 -- lines that are readable but for the two times, by their parts
-pub record But (lines : List (List ℕ)) : Type 0 where
-  pub head : Parts
+pub record But (e : Edition) (lines : List (List ℕ)) : Type 0 where
+  pub head : Parts e
   pub points : List Point
   pub good : Good points
   pub lines-are : lines ≡ linesFrom head points
 
-abbrev pub but-to : (lines : List (List ℕ)) → ButForTimes lines → But lines
+abbrev pub but-to : {e : Edition} (lines : List (List ℕ)) → ButForTimes e lines → But e lines
 but-to lines b =
     let h = b .holds in
     record {
@@ -96,7 +129,7 @@ but-to lines b =
       lines-are = b .lines-are;
     }
 
-abbrev pub but-from : (lines : List (List ℕ)) → But lines → ButForTimes lines
+abbrev pub but-from : {e : Edition} (lines : List (List ℕ)) → But e lines → ButForTimes e lines
 but-from lines b =
     record {
       message = messageOf (b .head) (b .points);
@@ -110,31 +143,31 @@ but-from lines b =
 
 -- ---- walks over them
 
-pub head-fills : (p : Parts) → FillAll slots (headFrom p)
-head-fills p = subst (FillAll slots) (head-is (rests p)) (groups-fill slots (rests p))
+pub head-fills : {e : Edition} (p : Parts e) → FillAll (slots e) (headFrom p)
+head-fills {e} p = subst (FillAll (slots e)) (head-is e (rests p)) (groups-fill (slots e) (rests p))
 
-pub walk-head : (p : Parts) (rest : List (List ℕ)) → Clear slots (headFrom p) rest → walk slots (flatten (headFrom p) ++ rest) ≡ Through (headFrom p) rest
-walk-head p rest c = goes-through slots (headFrom p) rest (head-fills p) c
+pub walk-head : {e : Edition} (p : Parts e) (rest : List (List ℕ)) → Clear (slots e) (headFrom p) rest → walk (slots e) (flatten (headFrom p) ++ rest) ≡ Through (headFrom p) rest
+walk-head {e} p rest c = goes-through (slots e) (headFrom p) rest (head-fills p) c
 
-pub walk-but : (lines : List (List ℕ)) (b : But lines) → walk slots lines ≡ Through (headFrom (b .head)) (map lineOf (b .points))
-walk-but lines b =
-    ap (walk slots) (b .lines-are)
+pub walk-but : {e : Edition} (lines : List (List ℕ)) (b : But e lines) → walk (slots e) lines ≡ Through (headFrom (b .head)) (map lineOf (b .points))
+walk-but {e} lines b =
+    ap (walk (slots e)) (b .lines-are)
     ∙ walk-head (b .head) (map lineOf (b .points)) (clear-head-of (b .head) (map lineOf (b .points)) (past-points (b .points)))
 
-pub data Outcome (lines : List (List ℕ)) : Type 0 where
-  halts : (before : List (List ℕ)) → walk slots lines ≡ Stopped before → Halts slots lines before → Outcome lines
-  goes : (p : Parts) (rest : List (List ℕ)) → walk slots lines ≡ Through (headFrom p) rest → lines ≡ flatten (headFrom p) ++ rest
-      → Clear slots (headFrom p) rest → Outcome lines
+pub data Outcome (e : Edition) (lines : List (List ℕ)) : Type 0 where
+  halts : (before : List (List ℕ)) → walk (slots e) lines ≡ Stopped before → Halts (slots e) lines before → Outcome e lines
+  goes : (p : Parts e) (rest : List (List ℕ)) → walk (slots e) lines ≡ Through (headFrom p) rest → lines ≡ flatten (headFrom p) ++ rest
+      → Clear (slots e) (headFrom p) rest → Outcome e lines
 
-pub outcome : (lines : List (List ℕ)) → Outcome lines
-outcome lines = by (walk slots lines) refl (walk-means slots lines)
+pub outcome : (e : Edition) (lines : List (List ℕ)) → Outcome e lines
+outcome e lines = by (walk (slots e) lines) refl (walk-means (slots e) lines)
   where
-    by : (w : Walked) → walk slots lines ≡ w → Means slots lines w → Outcome lines
-    by (Through groups rest) e m =
-        let (h, q) = fill-groups slots groups (m .fills) in
-        let g : groups ≡ headFrom (parts h) = q ∙ head-is h in
-        goes (parts h) rest (e ∙ ap (λ x. Through x rest) g) (m .lines-are ∙ ap (λ x. flatten x ++ rest) g) (subst (λ x. Clear slots x rest) g (m .clear))
-    by (Stopped before) e m = halts before e m
+    by : (w : Walked) → walk (slots e) lines ≡ w → Means (slots e) lines w → Outcome e lines
+    by (Through groups rest) w m =
+        let (h, q) = fill-groups (slots e) groups (m .fills) in
+        let g : groups ≡ headFrom {e = e} (parts {e = e} h) = q ∙ head-is e h in
+        goes (parts h) rest (w ∙ ap (λ x. Through x rest) g) (m .lines-are ∙ ap (λ x. flatten x ++ rest) g) (subst (λ x. Clear (slots e) x rest) g (m .clear))
+    by (Stopped before) w m = halts before w m
 
 -- ---- the data lines behind a head
 
@@ -163,17 +196,17 @@ all-of-good points g =
 -- ---- what is read
 
 -- the two times, tested in this order
-abbrev pub tested : Parts → List Point → Read
+abbrev pub tested : {e : Edition} → Parts e → List Point → Read
 tested p points =
     unless (sameText (p .start .0) (timeAfter (firstSeconds points))) (numberAt (headFrom p) startSlot)
     (unless (sameText (p .stop .0) (timeAfter (lastSeconds points))) (numberAt (headFrom p) stopSlot)
     (Reads (headFrom p) points))
 
-times-last : (p : Parts) (rest : List (List ℕ)) (points : List Point) → allRead points rest ≡ true → readBehind (headFrom p) rest points ≡ tested p points
+times-last : {e : Edition} (p : Parts e) (rest : List (List ℕ)) (points : List Point) → allRead points rest ≡ true → readBehind (headFrom p) rest points ≡ tested p points
 unfolding readBehind unless
 times-last p rest points h = rw (h, start-found p, stop-found p)
 
-pub read-but : (lines : List (List ℕ)) (b : But lines) → readLines lines ≡ tested (b .head) (b .points)
+pub read-but : {e : Edition} (lines : List (List ℕ)) (b : But e lines) → readLines e lines ≡ tested (b .head) (b .points)
 unfolding readLines readBy
 read-but lines b =
     let rest = map lineOf (b .points) in
@@ -182,12 +215,12 @@ read-but lines b =
     ∙ times-last (b .head) rest (b .points) (all-of-good (b .points) (b .good))
 
 -- or it stops behind a head, at the first data line that is not read
-pub data Behind (p : Parts) (rest : List (List ℕ)) : Type 0 where
+pub data Behind {e : Edition} (p : Parts e) (rest : List (List ℕ)) : Type 0 where
   all-read : allRead (pointsIn 0 rest) rest ≡ true → Behind p rest
   not-all : allRead (pointsIn 0 rest) rest ≡ false → readBehind (headFrom p) rest (pointsIn 0 rest) ≡ Stops (numberAt (headFrom p) dataSlot + length (pointsIn 0 rest))
       → Behind p rest
 
-pub behind-head : (p : Parts) (rest : List (List ℕ)) → Behind p rest
+pub behind-head : {e : Edition} (p : Parts e) (rest : List (List ℕ)) → Behind p rest
 unfolding readBehind unless
 behind-head p rest = by (allRead (pointsIn 0 rest) rest) refl
   where

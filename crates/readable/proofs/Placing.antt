@@ -7,6 +7,7 @@ use lib.ListN.{length, take, drop}
 use lib.Seq.{take-append-seam, drop-append-seam, drop-drop}
 use Rattle.text.specs.Numbers.{ascii}
 use Rattle.message.specs.Message.{says}
+use Rattle.message.specs.declared.Edition.{Edition}
 use Rattle.received.specs.Slots.{restIn}
 use Rattle.received.specs.Data.{Point, lineOf}
 use Rattle.received.specs.Messages.{Message, Says}
@@ -47,23 +48,23 @@ found-held : (text : List ℕ) (before : List (List (List ℕ))) (keyword : Stri
     → take (length (restIn (ascii keyword ++ ascii " = ") (says keyword value))) (drop (length (flatten (flatten before)) + length (ascii keyword ++ ascii " = ")) text) ≡ value
 found-held text before keyword value behind rest e = rw (rest-says keyword value) (value-held text before keyword value behind rest e)
 
-says-named : (text : List ℕ) (m : Message) (count : ℕ) → Says text m → Named text (received (headIn m) count) m
+says-named : (e : Edition) (text : List ℕ) (m : Message) (count : ℕ) → Says e text m → Named text (received (headIn e m) count) m
 unfolding received placeAt restAt lineAt
-says-named text m count s =
-    let head = headIn m in
+says-named e text m count s =
+    let head = headIn e m in
     let rest = map lineOf (m .points) in
     record {
-      created = found-held text (take 2 head) "CREATION_DATE" (m .created) (drop 3 head) rest (s .text-is);
-      originator = found-held text (take 3 head) "ORIGINATOR" (m .originator) (drop 4 head) rest (s .text-is);
-      object = found-held text (take 6 head) "OBJECT_NAME" (m .object) (drop 7 head) rest (s .text-is);
-      id = found-held text (take 7 head) "OBJECT_ID" (m .id) (drop 8 head) rest (s .text-is);
-      center = found-held text (take 8 head) "CENTER_NAME" (m .center) (drop 9 head) rest (s .text-is);
-      frame = found-held text (take 9 head) "REF_FRAME" (m .frame) (drop 10 head) rest (s .text-is);
+      created = found-held text (take 3 head) "CREATION_DATE" (m .created) (drop 4 head) rest (s .text-is);
+      originator = found-held text (take 4 head) "ORIGINATOR" (m .originator) (drop 5 head) rest (s .text-is);
+      object = found-held text (take 8 head) "OBJECT_NAME" (m .object) (drop 9 head) rest (s .text-is);
+      id = found-held text (take 9 head) "OBJECT_ID" (m .id) (drop 10 head) rest (s .text-is);
+      center = found-held text (take 10 head) "CENTER_NAME" (m .center) (drop 11 head) rest (s .text-is);
+      frame = found-held text (take 11 head) "REF_FRAME" (m .frame) (drop 12 head) rest (s .text-is);
     }
 
-pub named : (text : List ℕ) (groups : List (List (List ℕ))) (points : List Point) (count : ℕ) → readOf text ≡ Reads groups points
+pub named : (e : Edition) (text : List ℕ) (groups : List (List (List ℕ))) (points : List Point) (count : ℕ) → readOf e text ≡ Reads groups points
     → Named text (received groups count) (messageIn groups points)
-named text groups points count e =
-    let s = sound text groups points e in
+named e text groups points count q =
+    let s = sound e text groups points q in
     let m = messageIn groups points in
-    subst (λ g. Named text (received g count) m) (same-groups (sym (complete text m s .0) ∙ e)) (says-named text m count s)
+    subst (λ g. Named text (received g count) m) (same-groups (sym (complete e text m s .0) ∙ q)) (says-named e text m count s)

@@ -11,6 +11,7 @@ use Rattle.calendar.specs.Text.{sameText}
 use Rattle.calendar.specs.Back.{same-true, same-refl}
 use Rattle.integers.specs.Tests.{fails, clash}
 use Rattle.message.specs.Message.{says, timeAfter}
+use Rattle.message.specs.declared.Edition.{Edition}
 use Rattle.received.specs.Lines.{linesIn}
 use Rattle.received.specs.Data.{Point, lineOf, pointsIn, firstSeconds, lastSeconds}
 use Rattle.received.specs.Slots.{Through, walk}
@@ -57,20 +58,20 @@ same-points e = ap pointsOf e
 
 -- ---- the lines of a text that says a message
 
-all-end : (p : Parts) (points : List Point) → Good points → Every IsLine (linesFrom p points)
+all-end : {e : Edition} (p : Parts e) (points : List Point) → Good points → Every IsLine (linesFrom p points)
 all-end p points g = every-append IsLine (flatten (headFrom p)) (map lineOf points) (flat-ends (headFrom p) (head-ends p)) (points-end points (g .are-points))
 
 -- lines that are readable but for the two times are the lines of their text
-pub but-found : (lines : List (List ℕ)) → But lines → linesIn (flatten lines) ≡ lines
+pub but-found : {e : Edition} (lines : List (List ℕ)) → But e lines → linesIn (flatten lines) ≡ lines
 but-found lines b = found-again lines (subst (Every IsLine) (sym (b .lines-are)) (all-end (b .head) (b .points) (b .good)))
 
 -- the parts of a message with its own times
-abbrev pub ownParts : (m : Message) → Holds m → Parts
+abbrev pub ownParts : {e : Edition} (m : Message) → Holds e m → Parts e
 ownParts m h =
     partsOf m h (timeAfter (firstSeconds (m .points))) (timeAfter (lastSeconds (m .points)))
     (start-printable (firstSeconds (m .points))) (stop-printable (lastSeconds (m .points)))
 
-abbrev pub own-but : (m : Message) (h : Holds m) → But (linesOf m)
+abbrev pub own-but : {e : Edition} (m : Message) (h : Holds e m) → But e (linesOf e m)
 own-but m h =
     record {
       head = ownParts m h;
@@ -79,77 +80,77 @@ own-but m h =
       lines-are = refl;
     }
 
-pub says-lines : (text : List ℕ) (m : Message) → Says text m → linesIn text ≡ linesOf m
-says-lines text m s = ap linesIn (s .text-is) ∙ but-found (linesOf m) (own-but m (s .holds))
+pub says-lines : {e : Edition} (text : List ℕ) (m : Message) → Says e text m → linesIn text ≡ linesOf e m
+says-lines {e} text m s = ap linesIn (s .text-is) ∙ but-found (linesOf e m) (own-but m (s .holds))
 
 -- ---- sound
 
 -- lines whose two times are right
-pub right-times : (text : List ℕ) (b : But (linesIn text)) → b .head .start .0 ≡ timeAfter (firstSeconds (b .points)) → b .head .stop .0 ≡ timeAfter (lastSeconds (b .points))
-    → Says text (messageOf (b .head) (b .points))
-right-times text b s t =
+pub right-times : {e : Edition} (text : List ℕ) (b : But e (linesIn text)) → b .head .start .0 ≡ timeAfter (firstSeconds (b .points)) → b .head .stop .0 ≡ timeAfter (lastSeconds (b .points))
+    → Says e text (messageOf (b .head) (b .points))
+right-times {e} text b s t =
     let m = messageOf (b .head) (b .points) in
     record {
       holds = holds-of (b .head) (b .points) (b .good);
-      text-is = sym (together text) ∙ ap flatten (b .lines-are ∙ ap₂ (λ x y. linesWith m x y) s t);
+      text-is = sym (together text) ∙ ap flatten (b .lines-are ∙ ap₂ (λ x y. linesWith e m x y) s t);
     }
 
-module _ (text : List ℕ) (groups : List (List (List ℕ))) (points : List Point) where
-  by-times : (b : But (linesIn text)) (s t : Bool)
+module _ {e : Edition} (text : List ℕ) (groups : List (List (List ℕ))) (points : List Point) where
+  by-times : (b : But e (linesIn text)) (s t : Bool)
       → sameText (b .head .start .0) (timeAfter (firstSeconds (b .points))) ≡ s → sameText (b .head .stop .0) (timeAfter (lastSeconds (b .points))) ≡ t
       → unless s (numberAt (headFrom (b .head)) startSlot) (unless t (numberAt (headFrom (b .head)) stopSlot) (Reads (headFrom (b .head)) (b .points))) ≡ Reads groups points
-      → Says text (messageIn groups points)
+      → Says e text (messageIn groups points)
   unfolding unless
-  by-times b true true s t e =
+  by-times b true true s t q =
       let m : messageOf (b .head) (b .points) ≡ messageIn groups points =
-      sym (message-found (b .head) (b .points)) ∙ ap₂ messageIn (same-groups e) (same-points e) in
-      subst (Says text) m (right-times text b (same-true _ _ s) (same-true _ _ t))
-  by-times b true false s t e = not-both (sym e)
-  by-times b false t s _ e = not-both (sym e)
+      sym (message-found (b .head) (b .points)) ∙ ap₂ messageIn (same-groups q) (same-points q) in
+      subst (Says e text) m (right-times text b (same-true _ _ s) (same-true _ _ t))
+  by-times b true false s t q = not-both (sym q)
+  by-times b false t s _ q = not-both (sym q)
 
-  by-but : But (linesIn text) → readLines (linesIn text) ≡ Reads groups points → Says text (messageIn groups points)
-  by-but b e =
+  by-but : But e (linesIn text) → readLines e (linesIn text) ≡ Reads groups points → Says e text (messageIn groups points)
+  by-but b q =
       by-times b (sameText (b .head .start .0) (timeAfter (firstSeconds (b .points)))) (sameText (b .head .stop .0) (timeAfter (lastSeconds (b .points))))
-      refl refl (sym (read-but (linesIn text) b) ∙ e)
+      refl refl (sym (read-but (linesIn text) b) ∙ q)
 
-pub sound : (text : List ℕ) (groups : List (List (List ℕ))) (points : List Point) → readOf text ≡ Reads groups points → Says text (messageIn groups points)
+pub sound : (e : Edition) (text : List ℕ) (groups : List (List (List ℕ))) (points : List Point) → readOf e text ≡ Reads groups points → Says e text (messageIn groups points)
 unfolding readOf readLines readBy
-sound text groups points e = by (outcome (linesIn text))
+sound e text groups points q = by (outcome e (linesIn text))
   where
-    behind : (p : Parts) (rest : List (List ℕ)) → walk slots (linesIn text) ≡ Through (headFrom p) rest → linesIn text ≡ flatten (headFrom p) ++ rest → Behind p rest
-        → Says text (messageIn groups points)
+    behind : (p : Parts e) (rest : List (List ℕ)) → walk (slots e) (linesIn text) ≡ Through (headFrom p) rest → linesIn text ≡ flatten (headFrom p) ++ rest → Behind p rest
+        → Says e text (messageIn groups points)
     behind p rest w l (all-read a) =
-        let (g, q) = all-of-them rest a in
-        by-but text groups points (record { head = p; points = pointsIn 0 rest; good = g; lines-are = l ∙ ap (λ x. flatten (headFrom p) ++ x) q }) e
-    behind p rest w l (not-all a s) = not-both (sym e ∙ ap readBy w ∙ s)
+        let (g, r) = all-of-them rest a in
+        by-but text groups points (record { head = p; points = pointsIn 0 rest; good = g; lines-are = l ∙ ap (λ x. flatten (headFrom p) ++ x) r }) q
+    behind p rest w l (not-all a s) = not-both (sym q ∙ ap readBy w ∙ s)
 
-    by : Outcome (linesIn text) → Says text (messageIn groups points)
-    by (halts before w h) = not-both (sym e ∙ ap readBy w)
+    by : Outcome e (linesIn text) → Says e text (messageIn groups points)
+    by (halts before w h) = not-both (sym q ∙ ap readBy w)
     by (goes p rest w l c) = behind p rest w l (behind-head p rest)
 
 -- ---- complete
 
-pub complete : (text : List ℕ) (m : Message) → Says text m → (readOf text ≡ Reads (headIn m) (m .points)) × (messageIn (headIn m) (m .points) ≡ m)
+pub complete : (e : Edition) (text : List ℕ) (m : Message) → Says e text m → (readOf e text ≡ Reads (headIn e m) (m .points)) × (messageIn (headIn e m) (m .points) ≡ m)
 unfolding readOf unless
-complete text m s =
+complete e text m s =
     let b = own-but m (s .holds) in
-    let r : readLines (linesOf m) ≡ Reads (headIn m) (m .points) =
-    read-but (linesOf m) b ∙ rw (same-refl (timeAfter (firstSeconds (m .points))), same-refl (timeAfter (lastSeconds (m .points)))) refl in
-    (ap readLines (says-lines text m s) ∙ r, message-found (b .head) (m .points))
+    let r : readLines e (linesOf e m) ≡ Reads (headIn e m) (m .points) =
+    read-but (linesOf e m) b ∙ rw (same-refl (timeAfter (firstSeconds (m .points))), same-refl (timeAfter (lastSeconds (m .points)))) refl in
+    (ap (readLines e) (says-lines text m s) ∙ r, message-found (b .head) (m .points))
 
-pub unique : (text : List ℕ) (m n : Message) → Says text m → Says text n → m ≡ n
-unique text m n s t =
-    let (e, p) = complete text m s in
-    let (f, q) = complete text n t in
-    let r = sym e ∙ f in
+pub unique : (e : Edition) (text : List ℕ) (m n : Message) → Says e text m → Says e text n → m ≡ n
+unique e text m n s t =
+    let (d, p) = complete e text m s in
+    let (f, q) = complete e text n t in
+    let r = sym d ∙ f in
     sym p ∙ ap₂ messageIn (same-groups r) (same-points r) ∙ q
 
-pub exactly : (text : List ℕ) → ((n : ℕ) × (readOf text ≡ Stops n)) ↔ (¬ Readable text)
-exactly text = ((λ (n, e) (m, s). not-both (sym (complete text m s .0) ∙ e)), λ h. by h (readOf text) refl)
+pub exactly : (e : Edition) (text : List ℕ) → ((n : ℕ) × (readOf e text ≡ Stops n)) ↔ (¬ Readable e text)
+exactly e text = ((λ (n, q) (m, s). not-both (sym (complete e text m s .0) ∙ q)), λ h. by h (readOf e text) refl)
   where
-    by : ¬ Readable text → (r : Read) → readOf text ≡ r → (n : ℕ) × (readOf text ≡ Stops n)
-    by h (Reads groups points) e = absurd (h (messageIn groups points, sound text groups points e))
-    by h (Stops n) e = (n, e)
+    by : ¬ Readable e text → (r : Read) → readOf e text ≡ r → (n : ℕ) × (readOf e text ≡ Stops n)
+    by h (Reads groups points) q = absurd (h (messageIn groups points, sound e text groups points q))
+    by h (Stops n) q = (n, q)
 
 -- ---- the two times, each at its own line
 
@@ -181,22 +182,22 @@ first-fails s first t last a b r n true true e f h g = absurd (h g)
 first-fails s first t last a b r n true false e f h g = inr (sym (same-stop g), (same-true s first e, not-alike t last f))
 first-fails s first t last a b r n false q e f h g = inl (sym (same-stop g), not-alike s first e)
 
-pub times-last : (text : List ℕ) (b : ButForTimes (linesIn text)) → TimesLast text b
+pub times-last : (e : Edition) (text : List ℕ) (b : ButForTimes e (linesIn text)) → TimesLast e text b
 unfolding readOf unless numberAt
-times-last text b =
+times-last e text b =
     let c = but-to (linesIn text) b in
     let first = timeAfter (firstSeconds (b .message .points)) in
     let last = timeAfter (lastSeconds (b .message .points)) in
-    let head = headOf (b .message) (b .start) (b .stop) in
+    let head = headOf e (b .message) (b .start) (b .stop) in
     let rest = map lineOf (b .message .points) in
-    let e = read-but (linesIn text) c in
+    let q = read-but (linesIn text) c in
     record {
-      startWrong = λ s. e ∙ rw (unlike (b .start) first s) refl;
-      stopWrong = λ s t. e ∙ rw (alike (b .start) first s, unlike (b .stop) last t) refl;
+      startWrong = λ s. q ∙ rw (unlike (b .start) first s) refl;
+      stopWrong = λ s t. q ∙ rw (alike (b .start) first s, unlike (b .stop) last t) refl;
       bothRight = right-times text c;
       stopsBy = λ n f.
           first-fails (b .start) first (b .stop) last (numberAt head startSlot) (numberAt head stopSlot) (Reads head (b .message .points)) n
-          (sameText (b .start) first) (sameText (b .stop) last) refl refl (λ g. not-both g) (sym e ∙ f);
-      startLine = own-line (take 11 head) (says "START_TIME" (b .start)) (drop 12 head) rest (linesIn text) (numberAt head startSlot) (b .lines-are) refl;
-      stopLine = own-line (take 12 head) (says "STOP_TIME" (b .stop)) (drop 13 head) rest (linesIn text) (numberAt head stopSlot) (b .lines-are) refl;
+          (sameText (b .start) first) (sameText (b .stop) last) refl refl (λ g. not-both g) (sym q ∙ f);
+      startLine = own-line (take 13 head) (says "START_TIME" (b .start)) (drop 14 head) rest (linesIn text) (numberAt head startSlot) (b .lines-are) refl;
+      stopLine = own-line (take 14 head) (says "STOP_TIME" (b .stop)) (drop 15 head) rest (linesIn text) (numberAt head stopSlot) (b .lines-are) refl;
     }

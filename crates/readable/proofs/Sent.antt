@@ -1,4 +1,4 @@
--- The text that C-14 writes is readable, and says what was asked for.
+-- The text that is written in an edition is readable in it, and says what was asked for.
 use mathlib.Core.Path.{_≡_, refl, sym, _∙_, ap}
 use mathlib.Core.Bool.{Bool, true, false, and-eq-true-iff}
 use mathlib.Core.List.{List, [], _++_, flatten, map, append-nil}
@@ -21,8 +21,10 @@ use Rattle.calendar.specs.Calendar.{mostSeconds}
 use Rattle.decimal.specs.Text.{positionFits, velocityFits}
 use Rattle.decimal.specs.Digits.{few-digits}
 use Rattle.message.specs.Request.{Request, countOf, place, valueAt, secondsIn, secondsAt}
-use Rattle.message.specs.Message.{says, timeAfter, texts, valueText, field, line, lineFrom, message}
+use Rattle.message.specs.Message.{says, timeAfter, texts, valueText, field, line, lineFrom, messageAs}
 use Rattle.message.specs.Refusals.{isTime, namesHold, settingsHold, endsInTime, wellFormed, allOf, exactAt, positionHolds, velocityHolds, holdsAs, valueHolds, pointHolds, pointsHold, rules, refusal}
+use Rattle.message.specs.declared.Edition.{Edition}
+use Rattle.message.specs.Editions.{versionOf}
 use Rattle.received.specs.Data.{fieldOf, dataLine, lineOf, firstSeconds, lastSeconds}
 use Rattle.received.specs.Messages.{headOf, IsPoint, Says}
 use Rattle.readable.specs.Sent.{pointsFrom, positionAt, velocityAt, pointAt, sent}
@@ -143,9 +145,9 @@ ends-at r (suc n) l =
     let k : 0 + n ≡ suc n - 1 = omega arith in
     (refl, last-from (pointAt r) 0 0 n ∙ ap (secondsAt r) k)
 
-abbrev texted : Request → List ℕ → List ℕ → List ℕ → List ℕ
-texted r start stop lines =
-    says "CCSDS_OEM_VERS" (ascii "2.0")
+abbrev texted : Edition → Request → List ℕ → List ℕ → List ℕ → List ℕ
+texted e r start stop lines =
+    says "CCSDS_OEM_VERS" (versionOf e)
     ++ (says "CREATION_DATE" (r .created)
     ++ (says "ORIGINATOR" (r .originator)
     ++ (ascii "META_START\n"
@@ -159,21 +161,22 @@ texted r start stop lines =
     ++ (ascii "META_STOP\n"
     ++ lines)))))))))))
 
-message-text : (r : Request)
-    → message r
-    ≡ texted r (timeAfter (secondsAt r 0)) (timeAfter (secondsAt r (countOf (r .points) - 1)))
+message-text : (e : Edition) (r : Request)
+    → messageAs e r
+    ≡ texted e r (timeAfter (secondsAt r 0)) (timeAfter (secondsAt r (countOf (r .points) - 1)))
     (texts (lineFrom (r .tick) (r .step) (r .points) (secondsIn (r .start))) (countOf (r .points)) ++ [])
-unfolding message flatten
-message-text r = refl
+unfolding messageAs flatten
+message-text e r = refl
 
-sent-text : (r : Request) (start stop : List ℕ) (lines : List (List ℕ)) → flatten (flatten (headOf (sent r) start stop) ++ lines) ≡ texted r start stop (flatten lines)
+sent-text : (e : Edition) (r : Request) (start stop : List ℕ) (lines : List (List ℕ))
+    → flatten (flatten (headOf e (sent r) start stop) ++ lines) ≡ texted e r start stop (flatten lines)
 unfolding flatten
-sent-text r start stop lines = refl
+sent-text e r start stop lines = refl
 
-pub written : (r : Request) (room : ℕ) → refusal r room ≡ 0 → Says (message r) (sent r)
+pub written : (e : Edition) (r : Request) (room : ℕ) → refusal r room ≡ 0 → Says e (messageAs e r) (sent r)
 unfolding namesHold texts
-written r room e =
-    let t = taken r room e in
+written e r room z =
+    let t = taken r room z in
     let n = countOf (r .points) in
     let points = pointsFrom (pointAt r) 0 n in
     let (originator, (object, (id, (center, frame)))) = simp joined at (t .names) in
@@ -188,8 +191,10 @@ written r room e =
       holds =
           record {
             onMessage = tt;
+            classification = tt;
             created = t .created;
             originator = originator;
+            identifier = tt;
             onObject = tt;
             object = object;
             id = id;
@@ -201,7 +206,7 @@ written r room e =
             rising = rising-from (pointAt r) 0 0 n (later r t) (omega arith);
           };
       text-is =
-          message-text r
-          ∙ (λ i. texted r (timeAfter (sym first i)) (timeAfter (sym last i)) (lines i))
-          ∙ sym (sent-text r (timeAfter (firstSeconds points)) (timeAfter (lastSeconds points)) (map lineOf points));
+          message-text e r
+          ∙ (λ i. texted e r (timeAfter (sym first i)) (timeAfter (sym last i)) (lines i))
+          ∙ sym (sent-text e r (timeAfter (firstSeconds points)) (timeAfter (lastSeconds points)) (map lineOf points));
     }

@@ -6,6 +6,7 @@ use Prim.Native.Nat.{ℕ, _<_}
 use native.Mathlib.Omega.{arith}
 use lib.ListN.{length, take, length-map}
 use Rattle.integers.specs.Tests.{clash}
+use Rattle.message.specs.declared.Edition.{Edition}
 use Rattle.received.specs.Lines.{linesIn}
 use Rattle.received.specs.Slots.{AllOf, isOf, leading, behind, walk}
 use Rattle.received.specs.Profile.{commentForm, slots}
@@ -48,21 +49,23 @@ no-comments (c ∷ group) rest a (inl (p, (i, l))) = clash (ap (isOf commentForm
 no-comments (c ∷ group) rest a (inr s) = no-comments group rest (a .1) s
 
 -- a head with some more of them
-module _ (p : Parts) (rest : List (List ℕ)) where
+module _ {e : Edition} (p : Parts e) (rest : List (List ℕ)) where
   group : List (List ℕ)
   group = leading commentForm rest
 
-  longer : (q : Parts) × (flatten (headFrom p) ++ rest ≡ flatten (headFrom q) ++ behind commentForm rest)
+  longer : (q : Parts e) × (flatten (headFrom p) ++ rest ≡ flatten (headFrom q) ++ behind commentForm rest)
   unfolding group flatten
   longer =
-      let (remarks, every, e) = rests-of commentForm group (leading-all commentForm rest) in
-      let before = take 14 (headFrom p) in
+      let (remarks, every, same) = rests-of commentForm group (leading-all commentForm rest) in
+      let before = take 16 (headFrom p) in
       let own = map comment (p .onData .0) in
-      let q : Parts =
+      let q : Parts e =
       record {
         onMessage = p .onMessage;
+        classification = p .classification;
         created = p .created;
         originator = p .originator;
+        identifier = p .identifier;
         onObject = p .onObject;
         object = p .object;
         id = p .id;
@@ -72,7 +75,7 @@ module _ (p : Parts) (rest : List (List ℕ)) where
         stop = p .stop;
         onData = (p .onData .0 ++ remarks, every-append _ (p .onData .0) remarks (p .onData .1) every);
       } in
-      let last : own ++ group ≡ map comment (p .onData .0 ++ remarks) = ap (λ x. own ++ x) e ∙ sym (map-append comment (p .onData .0) remarks) in
+      let last : own ++ group ≡ map comment (p .onData .0 ++ remarks) = ap (λ x. own ++ x) same ∙ sym (map-append comment (p .onData .0) remarks) in
       let all : flatten (headFrom p) ++ group ≡ flatten (headFrom q) =
       ap (λ x. x ++ group) (flat-append before (own ∷ []))
       ∙ append-assoc (flatten before) (own ++ []) group
@@ -83,26 +86,26 @@ module _ (p : Parts) (rest : List (List ℕ)) where
 
 -- ---- both
 
-mendable-mends : (text : List ℕ) → Mendable text → ¬ (mendOf text ≡ Cannot)
+mendable-mends : (e : Edition) (text : List ℕ) → Mendable e text → ¬ (mendOf e text ≡ Cannot)
 unfolding mendOf mendBy mendWith
-mendable-mends text m e =
-    let (h, g) = fill-groups slots (m .groups) (m .fills) in
+mendable-mends e text m c =
+    let (h, g) = fill-groups (slots e) (m .groups) (m .fills) in
     let p = parts h in
     let rest = behind commentForm (m .rest) in
     let (q, l) = longer p (m .rest) in
-    let lines : linesIn text ≡ flatten (headFrom q) ++ rest = m .lines-are ∙ ap (λ x. flatten x ++ m .rest) (g ∙ head-is h) ∙ l in
-    let w = ap (walk slots) lines ∙ walk-head q rest (clear-head-of q rest (behind-past commentForm (m .rest))) in
+    let lines : linesIn text ≡ flatten (headFrom q) ++ rest = m .lines-are ∙ ap (λ x. flatten x ++ m .rest) (g ∙ head-is e h) ∙ l in
+    let w = ap (walk (slots e)) lines ∙ walk-head q rest (clear-head-of q rest (behind-past commentForm (m .rest))) in
     let some = no-comments (leading commentForm (m .rest)) rest (leading-all commentForm (m .rest)) (subst (Some Says) (sym (leading-behind commentForm (m .rest))) (m .some)) in
-    by q rest (keptOf 0 rest) (kept-lines 0 0 rest) some (sym (ap mendBy w) ∙ e)
+    by q rest (keptOf 0 rest) (kept-lines 0 0 rest) some (sym (ap mendBy w) ∙ c)
   where
-    by : (q : Parts) (rest kept : List (List ℕ)) {dropped : List ℕ} → Keeps 0 0 rest kept dropped → Some Says rest → ¬ (mendWith (headFrom q) rest kept ≡ Cannot)
-    by q rest [] k some e = none-kept k refl refl some
-    by q rest (line ∷ lines) k some e = not-cannot e
+    by : (q : Parts e) (rest kept : List (List ℕ)) {dropped : List ℕ} → Keeps 0 0 rest kept dropped → Some Says rest → ¬ (mendWith (headFrom q) rest kept ≡ Cannot)
+    by q rest [] k some c = none-kept k refl refl some
+    by q rest (line ∷ lines) k some c = not-cannot c
 
-pub cannot : (text : List ℕ) → (mendOf text ≡ Cannot) ↔ (¬ Mendable text)
-cannot text = ((λ e m. mendable-mends text m e), λ h. by h (either text))
+pub cannot : (e : Edition) (text : List ℕ) → (mendOf e text ≡ Cannot) ↔ (¬ Mendable e text)
+cannot e text = ((λ c m. mendable-mends e text m c), λ h. by h (either e text))
   where
-    by : ¬ Mendable text → Either text → mendOf text ≡ Cannot
+    by : ¬ Mendable e text → Either e text → mendOf e text ≡ Cannot
     by h (stays s) = s
     by h (mends m) =
         absurd (h (record {

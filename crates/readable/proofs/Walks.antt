@@ -3,7 +3,8 @@ use mathlib.Core.Path.{_≡_, refl, sym, _∙_, ap, ap₂}
 use mathlib.Core.Bool.{Bool, true, false}
 use mathlib.Core.List.{List, [], _∷_, _++_, flatten, append-assoc}
 use Prim.Native.Nat.{ℕ}
-use Rattle.received.specs.Slots.{Form, isOf, Slot, one, any, AllOf, FillAll, Walked, Through, Stopped, leading, behind, after, walk}
+use Rattle.integers.specs.Tests.{clash}
+use Rattle.received.specs.Slots.{Form, isOf, Slot, one, perhaps, any, AllOf, Fills, FillAll, Walked, Through, Stopped, leading, behind, firstOf, pastFirst, after, walk}
 use Rattle.readable.proofs.Forms.{Rests, groupsOf, groups-fill}
 
 -- ---- the lines of a form that stand first
@@ -73,6 +74,72 @@ module _ (f : Form) where
   past-head [] line ys zs p = p
   past-head (x ∷ xs) line ys zs p = p
 
+-- ---- one line or none
+
+-- the slot has its line, or it may have none, or the first line is not of its form
+abbrev pub Done : Bool → Form → List (List ℕ) → List (List ℕ) → Type 0
+Done false f group lines = Unit {0}
+Done true f [] lines = Past f lines
+Done true f (line ∷ group) lines = Unit {0}
+
+module _ (f : Form) where
+  pub firsts : (may : Bool) (group lines : List (List ℕ)) → Fills (perhaps may f) group → Done may f group lines
+      → (firstOf may f (group ++ lines) ≡ group) × (pastFirst may f (group ++ lines) ≡ lines)
+  unfolding firstOf pastFirst
+  firsts false [] lines a d = (refl, refl)
+  firsts false (line ∷ []) lines a d = clash (a .0) refl
+  firsts false (line ∷ more ∷ group) lines a d = absurd a
+  firsts true [] [] a d = (refl, refl)
+  firsts true [] (line ∷ lines) a d = (
+    ap (λ t. elim t as (λ _. List (List ℕ)) [ true ↦ line ∷ [] | false ↦ [] ]) d,
+    ap (λ t. elim t as (λ _. List (List ℕ)) [ true ↦ lines | false ↦ line ∷ lines ]) d,
+  )
+  firsts true (line ∷ []) lines a d = (
+    ap (λ t. elim t as (λ _. List (List ℕ)) [ true ↦ line ∷ [] | false ↦ [] ]) (a .1),
+    ap (λ t. elim t as (λ _. List (List ℕ)) [ true ↦ lines | false ↦ line ∷ lines ]) (a .1),
+  )
+  firsts true (line ∷ more ∷ group) lines a d = absurd a
+
+  pub first-fills : (may : Bool) (lines : List (List ℕ)) → Fills (perhaps may f) (firstOf may f lines)
+  unfolding firstOf
+  first-fills false lines = tt
+  first-fills true [] = tt
+  first-fills true (line ∷ lines) = by (isOf f line) refl
+    where
+      by : (t : Bool) → isOf f line ≡ t → Fills (perhaps true f) (elim t as (λ _. List (List ℕ)) [ true ↦ line ∷ [] | false ↦ [] ])
+      by true e = (refl, e)
+      by false e = tt
+
+  pub first-done : (may : Bool) (lines : List (List ℕ)) → Done may f (firstOf may f lines) (pastFirst may f lines)
+  unfolding firstOf pastFirst
+  first-done false lines = tt
+  first-done true [] = tt
+  first-done true (line ∷ lines) = by (isOf f line) refl
+    where
+      by : (t : Bool) → isOf f line ≡ t
+          → Done true f (elim t as (λ _. List (List ℕ)) [ true ↦ line ∷ [] | false ↦ [] ]) (elim t as (λ _. List (List ℕ)) [ true ↦ lines | false ↦ line ∷ lines ])
+      by true e = tt
+      by false e = e
+
+  pub first-past : (may : Bool) (lines : List (List ℕ)) → firstOf may f lines ++ pastFirst may f lines ≡ lines
+  unfolding firstOf pastFirst
+  first-past false lines = refl
+  first-past true [] = refl
+  first-past true (line ∷ lines) = by (isOf f line)
+    where
+      by : (t : Bool)
+          → elim t as (λ _. List (List ℕ)) [ true ↦ line ∷ [] | false ↦ [] ] ++ elim t as (λ _. List (List ℕ)) [ true ↦ lines | false ↦ line ∷ lines ]
+          ≡ line ∷ lines
+      by true = refl
+      by false = refl
+
+  -- what stands behind the first line does not matter
+  pub done-head : (may : Bool) (group xs : List (List ℕ)) (line : List ℕ) (ys zs : List (List ℕ))
+      → Done may f group (xs ++ (line ∷ ys)) → Done may f group (xs ++ (line ∷ zs))
+  done-head false group xs line ys zs d = tt
+  done-head true [] xs line ys zs d = past-head f xs line ys zs d
+  done-head true (g ∷ group) xs line ys zs d = tt
+
 -- ---- through
 
 -- behind the lines of a slot for any number stands a line of another form
@@ -80,14 +147,18 @@ abbrev pub Clear : List Slot → List (List (List ℕ)) → List (List ℕ) → 
 Clear [] groups rest = Unit {0}
 Clear (s ∷ slots) [] rest = Unit {0}
 Clear (one f ∷ slots) (group ∷ groups) rest = Clear slots groups rest
+Clear (perhaps may f ∷ slots) (group ∷ groups) rest = Done may f group (flatten groups ++ rest) × Clear slots groups rest
 Clear (any f ∷ slots) (group ∷ groups) rest = Past f (flatten groups ++ rest) × Clear slots groups rest
 
 pub clear-head : (slots : List Slot) (groups : List (List (List ℕ))) (line : List ℕ) (ys zs : List (List ℕ))
     → Clear slots groups (line ∷ ys) → Clear slots groups (line ∷ zs)
 clear-head [] groups line ys zs h = tt
 clear-head (one f ∷ slots) [] line ys zs h = tt
+clear-head (perhaps may f ∷ slots) [] line ys zs h = tt
 clear-head (any f ∷ slots) [] line ys zs h = tt
 clear-head (one f ∷ slots) (group ∷ groups) line ys zs h = clear-head slots groups line ys zs h
+clear-head (perhaps may f ∷ slots) (group ∷ groups) line ys zs h =
+    (done-head f may group (flatten groups) line ys zs (h .0), clear-head slots groups line ys zs (h .1))
 clear-head (any f ∷ slots) (group ∷ groups) line ys zs h =
     (past-head f (flatten groups) line ys zs (h .0), clear-head slots groups line ys zs (h .1))
 
@@ -97,11 +168,17 @@ unfolding flatten walk after
 goes-through [] [] rest a c = refl
 goes-through [] (group ∷ groups) rest a c = absurd a
 goes-through (one f ∷ slots) [] rest a c = absurd a
+goes-through (perhaps may f ∷ slots) [] rest a c = absurd a
 goes-through (any f ∷ slots) [] rest a c = absurd a
 goes-through (one f ∷ slots) ([] ∷ groups) rest a c = absurd (a .0)
 goes-through (one f ∷ slots) ((line ∷ []) ∷ groups) rest a c =
     walk-by f line (flatten groups ++ rest) slots (a .0) ∙ ap (after (line ∷ [])) (goes-through slots groups rest (a .1) c)
 goes-through (one f ∷ slots) ((line ∷ more ∷ lines) ∷ groups) rest a c = absurd (a .0)
+goes-through (perhaps may f ∷ slots) (group ∷ groups) rest a c =
+    let (l, b) = firsts f may group (flatten groups ++ rest) (a .0) (c .0) in
+    ap (walk (perhaps may f ∷ slots)) (append-assoc group (flatten groups) rest)
+    ∙ ap₂ (λ x y. after x (walk slots y)) l b
+    ∙ ap (after group) (goes-through slots groups rest (a .1) (c .1))
 goes-through (any f ∷ slots) (group ∷ groups) rest a c =
     let (l, b) = leads f group (flatten groups ++ rest) (a .0) (c .0) in
     ap (walk (any f ∷ slots)) (append-assoc group (flatten groups) rest)
@@ -178,6 +255,34 @@ any-means f slots group lines (Stopped before) a p m =
         ∙ ap₂ (λ x y. after x (walk slots y)) l b
         ∙ ap (after group) (s more)
 
+perhaps-means : (may : Bool) (f : Form) (slots : List Slot) (group lines : List (List ℕ)) (w : Walked) → Fills (perhaps may f) group → Done may f group lines
+    → Means slots lines w → Means (perhaps may f ∷ slots) (group ++ lines) (after group w)
+unfolding walk after flatten
+perhaps-means may f slots group lines (Through groups rest) a d m =
+    record {
+      fills = (a, m .fills);
+      lines-are = ap (λ x. group ++ x) (m .lines-are) ∙ sym (append-assoc group (flatten groups) rest);
+      clear = (rw (m .lines-are) at d, m .clear);
+    }
+perhaps-means may f slots group lines (Stopped before) a d m =
+    record {
+      rest = m .rest;
+      lines-are = ap (λ x. group ++ x) (m .lines-are) ∙ sym (append-assoc group before (m .rest));
+      settles = settled (m .rest) (rw (m .lines-are) at d) (m .settles);
+      begins = λ h.
+          let (groups, more, b, e) = m .begins (h .1) in
+          (group ∷ groups, more, (a, b), ap (λ x. group ++ x) e ∙ sym (append-assoc group before more));
+    }
+  where
+    settled : (rest : List (List ℕ)) → Done may f group (before ++ rest) → Settles slots before rest → Settles (perhaps may f ∷ slots) (group ++ before) rest
+    settled [] q s = tt
+    settled (next ∷ rest) q s =
+        λ more.
+        let (l, b) = firsts f may group (before ++ (next ∷ more)) a (done-head f may group before next rest more q) in
+        ap (walk (perhaps may f ∷ slots)) (append-assoc group before (next ∷ more))
+        ∙ ap₂ (λ x y. after x (walk slots y)) l b
+        ∙ ap (after group) (s more)
+
 pub walk-means : (slots : List Slot) (lines : List (List ℕ)) → Means slots lines (walk slots lines)
 unfolding walk flatten
 walk-means [] lines = record { fills = tt; lines-are = refl; clear = tt }
@@ -200,6 +305,10 @@ walk-means (one f ∷ slots) (line ∷ lines) = by (isOf f line) refl (walk-mean
           settles = λ more. walk-by f line more slots e;
           begins = λ h. (groupsOf (one f ∷ slots) h, flatten (groupsOf (one f ∷ slots) h), groups-fill (one f ∷ slots) h, refl);
         }
+walk-means (perhaps may f ∷ slots) lines =
+    rw (first-past f may lines) at
+    (perhaps-means may f slots (firstOf may f lines) (pastFirst may f lines) (walk slots (pastFirst may f lines)) (first-fills f may lines) (first-done f may lines)
+    (walk-means slots (pastFirst may f lines)))
 walk-means (any f ∷ slots) lines =
     rw (leading-behind f lines) at
     (any-means f slots (leading f lines) (behind f lines) (walk slots (behind f lines)) (leading-all f lines) (behind-past f lines) (walk-means slots (behind f lines)))

@@ -1,9 +1,11 @@
 -- What mending does to a text, and which texts can be mended. Definitions only.
 use mathlib.Core.Path.{_≡_}
 use mathlib.Core.Logic.{_⊎_}
-use mathlib.Core.Bool.{true}
+use mathlib.Core.Bool.{true, false}
 use mathlib.Core.List.{List, [], _∷_, _++_, flatten, map}
 use Prim.Native.Nat.{ℕ, suc, _≤_}
+use lib.ListN.{length}
+use Rattle.message.specs.declared.Edition.{Edition}
 use Rattle.message.specs.Message.{says, timeAfter}
 use Rattle.received.specs.Lines.{linesIn}
 use Rattle.received.specs.Slots.{FillAll}
@@ -12,6 +14,7 @@ use Rattle.received.specs.Data.{Point, lineOf, firstSeconds, lastSeconds}
 use Rattle.received.specs.Messages.{Message, comment, headOf, linesOf, Holds, IsPoint}
 use Rattle.received.specs.Reading.{startSlot, stopSlot, dataSlot, numberAt}
 use Rattle.received.specs.Mending.{Change, change}
+use Rattle.received.specs.MendAnswer.{hasRooms}
 use Rattle.readable.specs.Keeping.{Keeps}
 
 -- numbers that rise, none of them below a least one
@@ -36,36 +39,41 @@ NoComment (line ∷ lines) = ¬ ((remark : List ℕ) × ((isRemark remark ≡ tr
 abbrev pub drop-of : ℕ → Change
 drop-of line = change line 1
 
-pub record Mended (text : List ℕ) (out : List (List ℕ)) (changes : List Change) : Type 0 where
+pub record Mended (e : Edition) (text : List ℕ) (out : List (List ℕ)) (changes : List Change) : Type 0 where
   -- the message that comes out, and the two times and the lines behind the allowed comments that stood
   pub message : Message
   pub start : List ℕ
   pub stop : List ℕ
   pub rest : List (List ℕ)
-  pub holds : Holds message
+  pub holds : Holds e message
   pub start-holds : anyValue "START_TIME" start ≡ true
   pub stop-holds : anyValue "STOP_TIME" stop ≡ true
-  pub stood : linesIn text ≡ flatten (headOf message start stop) ++ rest
+  pub stood : linesIn text ≡ flatten (headOf e message start stop) ++ rest
   pub no-comment : NoComment rest
-  pub comes-out : out ≡ linesOf message
+  pub comes-out : out ≡ linesOf e message
   -- which of the data lines are kept, and the numbers of the others
   pub dropped : List ℕ
-  pub keeps : Keeps (numberAt (headOf message start stop) dataSlot) 0 rest (map lineOf (message .points)) dropped
+  pub keeps : Keeps (numberAt (headOf e message start stop) dataSlot) 0 rest (map lineOf (message .points)) dropped
   -- what is listed
   pub startChange : List Change
   pub stopChange : List Change
   pub listed : changes ≡ startChange ++ (stopChange ++ map drop-of dropped)
   pub startListed :
       Lists (says "START_TIME" start) (says "START_TIME" (timeAfter (firstSeconds (message .points))))
-      (change (numberAt (headOf message start stop) startSlot) 2) startChange
+      (change (numberAt (headOf e message start stop) startSlot) 2) startChange
   pub stopListed :
       Lists (says "STOP_TIME" stop) (says "STOP_TIME" (timeAfter (lastSeconds (message .points))))
-      (change (numberAt (headOf message start stop) stopSlot) 3) stopChange
+      (change (numberAt (headOf e message start stop) stopSlot) 3) stopChange
 
 -- a head, whatever its two times are, and behind it some data line
-pub record Mendable (text : List ℕ) : Type 0 where
+pub record Mendable (e : Edition) (text : List ℕ) : Type 0 where
   pub groups : List (List (List ℕ))
   pub rest : List (List ℕ)
-  pub fills : FillAll slots groups
+  pub fills : FillAll (slots e) groups
   pub lines-are : linesIn text ≡ flatten groups ++ rest
   pub some : Some (λ line. (p : Point) × (IsPoint p × (line ≡ lineOf p))) rest
+
+-- mending gives a text or a list that is longer than its room
+abbrev pub NoRooms : Edition → List ℕ → List ℕ → List ℕ → Type 0
+NoRooms e text out changes =
+    (lines : List (List ℕ)) × ((list : List Change) × (Mended e text lines list × (hasRooms lines list (length out) (length changes) ≡ false)))

@@ -1,10 +1,11 @@
--- Texts worked out, character by character: what the reader finds in each, and what mending gives.
+-- Texts of version 2.0 worked out, character by character: what the reader finds in each, and what mending gives.
 use Prim.Native.Nat.{ℕ}
 use Prim.Native.String.{String}
 use mathlib.Core.List.{List, [], _∷_, _++_, flatten, map}
 use lib.IntN.{pos, negsuc}
 use Rattle.integers.specs.Lines.{Line, line as row}
 use Rattle.text.specs.Numbers.{ascii}
+use Rattle.message.specs.declared.Edition.the-variants.{Two}
 use Rattle.received.specs.Data.{Point}
 use Rattle.received.specs.Messages.{Message}
 use Rattle.received.specs.Reading.{Read, Reads, Stops, readOf, messageIn}
@@ -12,7 +13,7 @@ use Rattle.received.specs.Mending.{Change, change, Mend, Mends, Cannot, mendOf}
 
 -- ---- lines
 
-abbrev lines : List String → List (List ℕ)
+abbrev pub lines : List String → List (List ℕ)
 lines texts = map ascii texts
 
 -- up to the two times, with comments in the first two places
@@ -27,22 +28,22 @@ abbrev withAll : List String → List String → String → String → List (Lis
 withAll onMessage onObject start stop others = upTo onMessage onObject ++ (lines (start ∷ stop ∷ "META_STOP\n" ∷ []) ++ others)
 
 -- without comments: START_TIME is line 10, STOP_TIME line 11, and the data begin at line 13
-abbrev plain : String → String → List (List ℕ) → List (List ℕ)
+abbrev pub plain : String → String → List (List ℕ) → List (List ℕ)
 plain start stop others = withAll [] [] start stop others
 
-abbrev start1 : String
+abbrev pub start1 : String
 start1 = "START_TIME = 0001-01-01T00:00:01\n"
 
 abbrev start2 : String
 start2 = "START_TIME = 0001-01-01T00:00:02\n"
 
-abbrev stop1 : String
+abbrev pub stop1 : String
 stop1 = "STOP_TIME = 0001-01-01T00:00:01\n"
 
-abbrev stop2 : String
+abbrev pub stop2 : String
 stop2 = "STOP_TIME = 0001-01-01T00:00:02\n"
 
-abbrev data1 : String
+abbrev pub data1 : String
 data1 = "0001-01-01T00:00:01 1.000000 -0.000001 7000.250000 0.000000001 -2.000000000 0.000000000\n"
 
 abbrev data2 : String
@@ -61,7 +62,7 @@ both = lines (data1 ∷ data2 ∷ [])
 
 -- ---- reading
 
-abbrev point1 : Point
+abbrev pub point1 : Point
 point1 = record { seconds = 1; values = pos 1000000 ∷ negsuc 0 ∷ pos 7000250000 ∷ pos 1 ∷ negsuc 1999999999 ∷ pos 0 ∷ [] }
 
 abbrev point2 : Point
@@ -76,8 +77,10 @@ abbrev groups : List (List (List ℕ))
 groups =
     lines ("CCSDS_OEM_VERS = 2.0\n" ∷ [])
     ∷ lines ("COMMENT\n" ∷ "COMMENT  two\n" ∷ [])
+    ∷ []
     ∷ lines ("CREATION_DATE = 0001-01-01T00:00:00\n" ∷ [])
     ∷ lines ("ORIGINATOR = A\n" ∷ [])
+    ∷ []
     ∷ lines ("META_START\n" ∷ [])
     ∷ lines ("COMMENT a\n" ∷ [])
     ∷ lines ("OBJECT_NAME = B C\n" ∷ [])
@@ -95,8 +98,10 @@ abbrev found : Message
 found =
     record {
       onMessage = [] ∷ ascii "  two" ∷ [];
+      classification = [];
       created = ascii "0001-01-01T00:00:00";
       originator = ascii "A";
+      identifier = [];
       onObject = ascii " a" ∷ [];
       object = ascii "B C";
       id = ascii "D";
@@ -110,11 +115,11 @@ abbrev pub messages : List Line
 messages = row Message (messageIn groups (point1 ∷ point2 ∷ [])) found ∷ []
 
 abbrev stops : List (List ℕ) → ℕ → Line
-stops text n = row Read (readOf (flatten text)) (Stops n)
+stops text n = row Read (readOf Two (flatten text)) (Stops n)
 
 abbrev pub readings : List Line
 readings =
-    row Read (readOf (flatten commented)) (Reads groups (point1 ∷ point2 ∷ []))
+    row Read (readOf Two (flatten commented)) (Reads groups (point1 ∷ point2 ∷ []))
     -- nothing, another version, ORIGINATOR lost, an end before START_TIME, no data line
     ∷ stops [] 1
     ∷ stops (lines ("CCSDS_OEM_VERS = 3.0\n" ∷ [])) 1
@@ -148,10 +153,10 @@ abbrev dropped : ℕ → Change
 dropped n = change n 1
 
 abbrev mends : List (List ℕ) → List (List ℕ) → List Change → Line
-mends text out changes = row Mend (mendOf (flatten text)) (Mends out changes)
+mends text out changes = row Mend (mendOf Two (flatten text)) (Mends out changes)
 
 abbrev cannot : List (List ℕ) → Line
-cannot text = row Mend (mendOf (flatten text)) Cannot
+cannot text = row Mend (mendOf Two (flatten text)) Cannot
 
 abbrev pub mendings : List Line
 mendings =

@@ -31,8 +31,10 @@ module _ (r : Request) where
   sent =
       record {
         onMessage = [];
+        classification = [];
         created = r .created;
         originator = r .originator;
+        identifier = [];
         onObject = [];
         object = r .object;
         id = r .id;

@@ -9,10 +9,12 @@ use lib.ListN.{length, drop, length-append}
 use borrow.Author.Tests.{leb-true}
 use Rattle.integers.specs.Tests.{joined}
 use Rattle.calendar.specs.Text.{sameText}
+use Rattle.message.specs.declared.Edition.{Edition}
 use Rattle.message.specs.Message.{timeAfter}
 use Rattle.received.specs.declared.Received.{Received}
 use Rattle.received.specs.declared.judging.Judged.{Judged}
 use Rattle.received.specs.Lines.{linesIn}
+use Rattle.received.specs.Versions.{isOther}
 use Rattle.received.specs.Slots.{Walked, Through, Stopped, walk}
 use Rattle.received.specs.Profile.{slots}
 use Rattle.received.specs.Data.{Point, datumIn, pointIn, accepts, pointsIn, firstSeconds, lastSeconds}
@@ -38,12 +40,12 @@ unfolding readBy readBehind numberAt
 positive-by (Stopped before) = omega arith
 positive-by (Through groups rest) =
     unless-positive (allRead (pointsIn 0 rest) rest) _ _ (omega arith)
-    (unless-positive (sameText (restAt groups 11) (timeAfter (firstSeconds (pointsIn 0 rest)))) _ _ (omega arith)
-    (unless-positive (sameText (restAt groups 12) (timeAfter (lastSeconds (pointsIn 0 rest)))) _ _ (omega arith) tt))
+    (unless-positive (sameText (restAt groups 13) (timeAfter (firstSeconds (pointsIn 0 rest)))) _ _ (omega arith)
+    (unless-positive (sameText (restAt groups 14) (timeAfter (lastSeconds (pointsIn 0 rest)))) _ _ (omega arith) tt))
 
-pub positive : (text : List ℕ) → Positive (readOf text)
+pub positive : (e : Edition) (text : List ℕ) → Positive (readOf e text)
 unfolding readOf readLines
-positive text = positive-by (walkOver text)
+positive e text = positive-by (walkOver e text)
 
 -- ---- all lines are points
 
@@ -61,9 +63,34 @@ all-points earliest (line ∷ lines) e = by (accepts earliest (datumIn line)) e 
 
 -- ---- the answers
 
-module _ (text epochs : List ℕ) (values : List ℤ) {j : Judged} (e : j ≡ judgedBy (readOf text)) where
+module _ (e : Edition) (text epochs : List ℕ) (values : List ℤ) where
   abbrev Answered : Received → List ℕ → List ℤ → Type 0
-  Answered r es vs = (r ≡ answerTo text epochs values) × (es ≡ epochsAfter text epochs values) × (vs ≡ valuesAfter text epochs values)
+  Answered r es vs = (r ≡ answerTo e text epochs values) × (es ≡ epochsAfter e text epochs values) × (vs ≡ valuesAfter e text epochs values)
+
+  -- the text names another version
+  pub other : isOther e text ≡ true → Answered (refusedBy 17 0) epochs values
+  unfolding answerTo epochsAfter valuesAfter
+  other o = (
+    sym (ap (λ t. cond t (refusedBy 17 0) (answerBy (readOf e text) epochs values)) o),
+    sym (ap (λ t. cond t epochs (epochsBy (readOf e text) epochs values)) o),
+    sym (ap (λ t. cond t values (valuesBy (readOf e text) epochs values)) o),
+  )
+
+  abbrev AnsweredBy : Read → Received → List ℕ → List ℤ → Type 0
+  AnsweredBy read r es vs = (r ≡ answerBy read epochs values) × (es ≡ epochsBy read epochs values) × (vs ≡ valuesBy read epochs values)
+
+  -- it does not
+  pub own : isOther e text ≡ false → {r : Received} {es : List ℕ} {vs : List ℤ} → AnsweredBy (readOf e text) r es vs → Answered r es vs
+  unfolding answerTo epochsAfter valuesAfter
+  own o a = (
+    a .0 ∙ sym (ap (λ t. cond t (refusedBy 17 0) (answerBy (readOf e text) epochs values)) o),
+    a .1 ∙ sym (ap (λ t. cond t epochs (epochsBy (readOf e text) epochs values)) o),
+    a .2 ∙ sym (ap (λ t. cond t values (valuesBy (readOf e text) epochs values)) o),
+  )
+
+module _ (e : Edition) (text epochs : List ℕ) (values : List ℤ) {j : Judged} (q : j ≡ judgedBy (readOf e text)) where
+  abbrev Answers : Received → List ℕ → List ℤ → Type 0
+  Answers r es vs = AnsweredBy e text epochs values (readOf e text) r es vs
 
   stops-by : (r : Read) → j ≡ judgedBy r → (j .line ≡ 0 → ⊥)
       → (refusedBy 15 (j .line) ≡ answerBy r epochs values) × (epochs ≡ epochsBy r epochs values) × (values ≡ valuesBy r epochs values)
@@ -71,18 +98,17 @@ module _ (text epochs : List ℕ) (values : List ℤ) {j : Judged} (e : j ≡ ju
   stops-by (Stops n) e z = (ap (λ x. refusedBy 15 (x .line)) e, refl, refl)
   stops-by (Reads groups points) e z = absurd (z (ap (λ x. x .line) e))
 
-  pub stops : (j .line ≡ 0 → ⊥) → Answered (refusedBy 15 (j .line)) epochs values
-  unfolding answerTo epochsAfter valuesAfter
-  stops z = stops-by (readOf text) e z
+  pub stops : (j .line ≡ 0 → ⊥) → Answers (refusedBy 15 (j .line)) epochs values
+  stops z = stops-by (readOf e text) q z
 
   record Found : Type 0 where
     groups : List (List (List ℕ))
     points : List Point
-    reads : readOf text ≡ Reads groups points
+    reads : readOf e text ≡ Reads groups points
     at-is : j .at ≡ bytesOf (flatten groups)
     count-is : j .count ≡ length points
 
-  found-by : (r : Read) → readOf text ≡ r → Positive r → j ≡ judgedBy r → j .line ≡ 0 → Found
+  found-by : (r : Read) → readOf e text ≡ r → Positive r → j ≡ judgedBy r → j .line ≡ 0 → Found
   unfolding judgedBy
   found-by (Stops n) q p e z = absurd (omega (arith, p, ap (λ x. x .line) e, z))
   found-by (Reads groups points) q p e z =
@@ -90,35 +116,34 @@ module _ (text epochs : List ℕ) (values : List ℤ) {j : Judged} (e : j ≡ ju
 
   module _ (z : j .line ≡ 0) where
     abbrev f : Found
-    f = found-by (readOf text) refl (positive text) e z
+    f = found-by (readOf e text) refl (positive e text) q z
 
     abbrev rest : List (List ℕ)
-    rest = found text (f .reads) .rest
+    rest = found e text (f .reads) .rest
 
     behind : linesIn (drop (j .at) text) ≡ rest
-    behind = ap (λ n. linesIn (drop n text)) (f .at-is) ∙ lines-drop (flatten (f .groups)) text rest (found text (f .reads) .lines-are)
+    behind = ap (λ n. linesIn (drop n text)) (f .at-is) ∙ lines-drop (flatten (f .groups)) text rest (found e text (f .reads) .lines-are)
 
     as-many : length (f .points) ≡ length rest
-    as-many = counts text (f .reads) .1
+    as-many = counts e text (f .reads) .1
 
     all-are : map pointIn rest ≡ f .points
     all-are =
-        let p = found text (f .reads) .points-are in
+        let p = found e text (f .reads) .points-are in
         all-points 0 rest (ap length (sym p) ∙ as-many) ∙ sym p
 
     pub within : j .at ≤ length text
     within =
-        let w = found text (f .reads) in
+        let w = found e text (f .reads) in
         omega (arith, f .at-is, ap length (sym (lines-back text) ∙ ap flatten (w .lines-are)), bytes-append (flatten (f .groups)) (w .rest))
 
-    pub through : isThrough (walkOver text) ≡ true
-    through = found text (f .reads) .through
+    pub through : isThrough (walkOver e text) ≡ true
+    through = found e text (f .reads) .through
 
     same-count : length (linesIn (drop (j .at) text)) ≡ j .count
     same-count = ap length behind ∙ sym as-many ∙ sym (f .count-is)
 
-    pub no-room : hasRoom (j .count) (length epochs) (length values) ≡ false → Answered (refusedBy 12 0) epochs values
-    unfolding answerTo epochsAfter valuesAfter
+    pub no-room : hasRoom (j .count) (length epochs) (length values) ≡ false → Answers (refusedBy 12 0) epochs values
     no-room h =
         let n : hasRoom (length (f .points)) (length epochs) (length values) ≡ false =
         ap (λ k. hasRoom k (length epochs) (length values)) (sym (f .count-is)) ∙ h in (
@@ -134,18 +159,17 @@ module _ (text epochs : List ℕ) (values : List ℤ) {j : Judged} (e : j ≡ ju
           let (p, q) = simp joined at h in
           (omega (arith, same-count, leb-true (j .count) (length epochs) p), omega (arith, same-count, leb-true (6 * j .count) (length values) q))
 
-      pub keeps : {r : Received} → r ≡ received (groupsOf (walkOver text)) (j .count)
+      pub keeps : {r : Received} → r ≡ received (groupsOf (walkOver e text)) (j .count)
           → {es : List ℕ} → es ≡ secondsOf (map pointIn (linesIn (drop (j .at) text))) ++ drop (length (linesIn (drop (j .at) text))) epochs
           → {vs : List ℤ} → vs ≡ valuesOf (map pointIn (linesIn (drop (j .at) text))) ++ drop (6 * length (linesIn (drop (j .at) text))) values
-          → Answered r es vs
-      unfolding answerTo epochsAfter valuesAfter
+          → Answers r es vs
       keeps r es vs =
           let n : hasRoom (length (f .points)) (length epochs) (length values) ≡ true =
           ap (λ k. hasRoom k (length epochs) (length values)) (sym (f .count-is)) ∙ h in
           let ps : map pointIn (linesIn (drop (j .at) text)) ≡ f .points = ap (map pointIn) behind ∙ all-are in
           let c : length (linesIn (drop (j .at) text)) ≡ length (f .points) = same-count ∙ f .count-is in (
             r
-                ∙ (λ i. received (found text (f .reads) .groups-are i) (f .count-is i))
+                ∙ (λ i. received (found e text (f .reads) .groups-are i) (f .count-is i))
                 ∙ sym (ap (λ x. answerBy x epochs values) (f .reads) ∙ ap (λ t. cond t (received (f .groups) (length (f .points))) (refusedBy 12 0)) n),
             es
                 ∙ (λ i. secondsOf (ps i) ++ drop (c i) epochs)

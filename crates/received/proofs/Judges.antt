@@ -7,6 +7,7 @@ use native.Mathlib.Omega.{arith}
 use lib.ListN.{length, take, drop}
 use lib.Seq.{take-all}
 use Rattle.calendar.specs.Text.{sameText}
+use Rattle.message.specs.declared.Edition.{Edition}
 use Rattle.message.specs.Message.{timeAfter}
 use Rattle.received.specs.declared.heads.Spot.{Spot}
 use Rattle.received.specs.declared.data.Scanned.{Scanned}
@@ -30,7 +31,7 @@ unfolding unless
 unless-yes n r e = rw e refl
 
 -- it stopped at a line before the data
-module _ (text : List ℕ) where
+module _ (e : Edition) (text : List ℕ) where
   head-by : (w : Walked) → spotFrom 0 1 w .good ≡ false → _≡_ {A = Judged} record { line = spotFrom 0 1 w .line; at = 0; count = 0 } (judgedBy (readBy w))
   unfolding spotFrom readBy judgedBy
   head-by (Through groups rest) g = absurd (let z : _≡_ {A = ℕ} 0 1 = cc in omega arith)
@@ -41,53 +42,53 @@ module _ (text : List ℕ) where
   through-by (Through groups rest) g = refl
   through-by (Stopped before) g = g
 
-  module _ {head : Spot} (e : head ≡ spotFrom 0 1 (walkOver text)) where
-    pub head-stops : head .good ≡ false → _≡_ {A = Judged} record { line = head .line; at = 0; count = 0 } (judgedBy (readOf text))
+  module _ {head : Spot} (q : head ≡ spotFrom 0 1 (walkOver e text)) where
+    pub head-stops : head .good ≡ false → _≡_ {A = Judged} record { line = head .line; at = 0; count = 0 } (judgedBy (readOf e text))
     unfolding readOf readLines
     head-stops g =
-        ap (λ p. record { line = p .line; at = 0; count = 0 }) e ∙ head-by (walkOver text) (ap (λ p. p .good) (sym e) ∙ g)
+        ap (λ p. record { line = p .line; at = 0; count = 0 }) q ∙ head-by (walkOver e text) (ap (λ p. p .good) (sym q) ∙ g)
 
-    pub goes-through : head .good ≡ true → isThrough (walkOver text) ≡ true
-    goes-through g = through-by (walkOver text) (ap (λ p. p .good) (sym e) ∙ g)
+    pub goes-through : head .good ≡ true → isThrough (walkOver e text) ≡ true
+    goes-through g = through-by (walkOver e text) (ap (λ p. p .good) (sym q) ∙ g)
 
 -- ---- the head is read
 
-pub record Parts (text : List ℕ) (head : Spot) (scanned : Scanned) : Type 0 where
+pub record Parts (e : Edition) (text : List ℕ) (head : Spot) (scanned : Scanned) : Type 0 where
   pub rest : List (List ℕ)
-  pub walked : walkOver text ≡ Through (groupsOf (walkOver text)) rest
-  pub at-is : head .at ≡ bytesOf (flatten (groupsOf (walkOver text)))
-  pub line-is : head .line ≡ numberAt (groupsOf (walkOver text)) 15
+  pub walked : walkOver e text ≡ Through (groupsOf (walkOver e text)) rest
+  pub at-is : head .at ≡ bytesOf (flatten (groupsOf (walkOver e text)))
+  pub line-is : head .line ≡ numberAt (groupsOf (walkOver e text)) 17
   pub data-is : scanned ≡ scannedBy (pointsIn 0 rest) rest
 
-module _ (text : List ℕ) {head : Spot} {scanned : Scanned} where
-  parts-by : (w : Walked) → walkOver text ≡ w → Sound slots (linesIn text) w → isThrough w ≡ true → head ≡ spotFrom 0 1 w
-      → scanned ≡ scannedOf (linesIn (drop (head .at) text)) → Parts text head scanned
+module _ (e : Edition) (text : List ℕ) {head : Spot} {scanned : Scanned} where
+  parts-by : (w : Walked) → walkOver e text ≡ w → Sound (slots e) (linesIn text) w → isThrough w ≡ true → head ≡ spotFrom 0 1 w
+      → scanned ≡ scannedOf (linesIn (drop (head .at) text)) → Parts e text head scanned
   unfolding spotFrom numberAt
-  parts-by (Through groups rest) q (l, f) t e d =
-      let g : groupsOf (walkOver text) ≡ groups = ap groupsOf q in
-      let a : head .at ≡ bytesOf (flatten groups) = omega (arith, ap (λ p. p .at) e) in
-      let all : take 15 groups ≡ groups = take-all 15 groups (omega (arith, filled slots groups f)) in
+  parts-by (Through groups rest) q (l, f) t s d =
+      let g : groupsOf (walkOver e text) ≡ groups = ap groupsOf q in
+      let a : head .at ≡ bytesOf (flatten groups) = omega (arith, ap (λ p. p .at) s) in
+      let all : take 17 groups ≡ groups = take-all 17 groups (omega (arith, filled (slots e) groups f)) in
       let behind : linesIn (drop (head .at) text) ≡ rest = ap (λ n. linesIn (drop n text)) a ∙ lines-drop (flatten groups) text rest l in
       record {
         rest = rest;
         walked = q ∙ ap (λ gs. Through gs rest) (sym g);
         at-is = a ∙ ap (λ gs. bytesOf (flatten gs)) (sym g);
-        line-is = ap (λ p. p .line) e ∙ ap (λ gs. 1 + length (flatten gs)) (sym all ∙ ap (take 15) (sym g));
+        line-is = ap (λ p. p .line) s ∙ ap (λ gs. 1 + length (flatten gs)) (sym all ∙ ap (take 17) (sym g));
         data-is = d ∙ ap scannedOf behind;
       }
-  parts-by (Stopped before) q s t e d = absurd (let z : _≡_ {A = ℕ} 0 1 = cc in omega arith)
+  parts-by (Stopped before) q s t r d = absurd (let z : _≡_ {A = ℕ} 0 1 = cc in omega arith)
 
-  pub parts : head ≡ spotFrom 0 1 (walkOver text) → head .good ≡ true → scanned ≡ scannedOf (linesIn (drop (head .at) text)) → Parts text head scanned
-  parts e g d = parts-by (walkOver text) refl (walk-sound slots (linesIn text)) (through-by text (walkOver text) (ap (λ p. p .good) (sym e) ∙ g)) e d
+  pub parts : head ≡ spotFrom 0 1 (walkOver e text) → head .good ≡ true → scanned ≡ scannedOf (linesIn (drop (head .at) text)) → Parts e text head scanned
+  parts q g d = parts-by (walkOver e text) refl (walk-sound (slots e) (linesIn text)) (through-by e text (walkOver e text) (ap (λ p. p .good) (sym q) ∙ g)) q d
 
-  module _ (p : Parts text head scanned) where
+  module _ (p : Parts e text head scanned) where
     abbrev groups : List (List (List ℕ))
-    groups = groupsOf (walkOver text)
+    groups = groupsOf (walkOver e text)
 
     abbrev points : List Point
     points = pointsIn 0 (p .rest)
 
-    is-read : readOf text ≡ readBehind groups (p .rest) points
+    is-read : readOf e text ≡ readBehind groups (p .rest) points
     unfolding readOf readLines readBy
     is-read = ap readBy (p .walked)
 
@@ -107,40 +108,40 @@ module _ (text : List ℕ) {head : Spot} {scanned : Scanned} where
     unfolding scannedBy
     last-is = ap (λ d. d .last) (p .data-is)
 
-    pub data-stops : scanned .all ≡ false → _≡_ {A = Judged} record { line = head .line + scanned .count; at = 0; count = 0 } (judgedBy (readOf text))
+    pub data-stops : scanned .all ≡ false → _≡_ {A = Judged} record { line = head .line + scanned .count; at = 0; count = 0 } (judgedBy (readOf e text))
     unfolding readBehind judgedBy
     data-stops f =
         (λ i. record { line = p .line-is i + count-is i; at = 0; count = 0 })
-        ∙ sym (ap judgedBy (is-read ∙ unless-no (numberAt groups 15 + length points) _ (sym all-is ∙ f)))
+        ∙ sym (ap judgedBy (is-read ∙ unless-no (numberAt groups 17 + length points) _ (sym all-is ∙ f)))
 
     module _ (f : scanned .all ≡ true) where
-      pub start-stops : sameText (restAt groups 11) (timeAfter (scanned .first)) ≡ false → {start : Spot} → start ≡ spotFrom 0 1 (walk (take 11 slots) (linesIn text))
-          → isThrough (walkOver text) ≡ true → _≡_ {A = Judged} record { line = start .line; at = 0; count = 0 } (judgedBy (readOf text))
+      pub start-stops : sameText (restAt groups 13) (timeAfter (scanned .first)) ≡ false → {start : Spot} → start ≡ spotFrom 0 1 (walk (take 13 (slots e)) (linesIn text))
+          → isThrough (walkOver e text) ≡ true → _≡_ {A = Judged} record { line = start .line; at = 0; count = 0 } (judgedBy (readOf e text))
       unfolding readBehind judgedBy numberAt
       start-stops b {start} s t =
-          let n : start .line ≡ 1 + length (flatten (take 11 groups)) = ap (λ x. x .line) (s ∙ slot-begins text 11 (omega arith) t) in
+          let n : start .line ≡ 1 + length (flatten (take 13 groups)) = ap (λ x. x .line) (s ∙ slot-begins e text 13 (omega arith) t) in
           (λ i. record { line = n i; at = 0; count = 0 })
           ∙ sym (ap judgedBy (is-read
-          ∙ unless-yes (1 + length (flatten (take 15 groups)) + length points) _ (sym all-is ∙ f)
-          ∙ unless-no (1 + length (flatten (take 11 groups))) _ (ap (λ x. sameText (restAt groups 11) (timeAfter x)) (sym first-is) ∙ b)))
+          ∙ unless-yes (1 + length (flatten (take 17 groups)) + length points) _ (sym all-is ∙ f)
+          ∙ unless-no (1 + length (flatten (take 13 groups))) _ (ap (λ x. sameText (restAt groups 13) (timeAfter x)) (sym first-is) ∙ b)))
 
-      module _ (b : sameText (restAt groups 11) (timeAfter (scanned .first)) ≡ true) where
-        pub stop-stops : sameText (restAt groups 12) (timeAfter (scanned .last)) ≡ false → {stop : Spot} → stop ≡ spotFrom 0 1 (walk (take 12 slots) (linesIn text))
-            → isThrough (walkOver text) ≡ true → _≡_ {A = Judged} record { line = stop .line; at = 0; count = 0 } (judgedBy (readOf text))
+      module _ (b : sameText (restAt groups 13) (timeAfter (scanned .first)) ≡ true) where
+        pub stop-stops : sameText (restAt groups 14) (timeAfter (scanned .last)) ≡ false → {stop : Spot} → stop ≡ spotFrom 0 1 (walk (take 14 (slots e)) (linesIn text))
+            → isThrough (walkOver e text) ≡ true → _≡_ {A = Judged} record { line = stop .line; at = 0; count = 0 } (judgedBy (readOf e text))
         unfolding readBehind judgedBy numberAt
         stop-stops d {stop} s t =
-            let n : stop .line ≡ 1 + length (flatten (take 12 groups)) = ap (λ x. x .line) (s ∙ slot-begins text 12 (omega arith) t) in
+            let n : stop .line ≡ 1 + length (flatten (take 14 groups)) = ap (λ x. x .line) (s ∙ slot-begins e text 14 (omega arith) t) in
             (λ i. record { line = n i; at = 0; count = 0 })
             ∙ sym (ap judgedBy (is-read
-            ∙ unless-yes (1 + length (flatten (take 15 groups)) + length points) _ (sym all-is ∙ f)
-            ∙ unless-yes (1 + length (flatten (take 11 groups))) _ (ap (λ x. sameText (restAt groups 11) (timeAfter x)) (sym first-is) ∙ b)
-            ∙ unless-no (1 + length (flatten (take 12 groups))) _ (ap (λ x. sameText (restAt groups 12) (timeAfter x)) (sym last-is) ∙ d)))
+            ∙ unless-yes (1 + length (flatten (take 17 groups)) + length points) _ (sym all-is ∙ f)
+            ∙ unless-yes (1 + length (flatten (take 13 groups))) _ (ap (λ x. sameText (restAt groups 13) (timeAfter x)) (sym first-is) ∙ b)
+            ∙ unless-no (1 + length (flatten (take 14 groups))) _ (ap (λ x. sameText (restAt groups 14) (timeAfter x)) (sym last-is) ∙ d)))
 
-        pub all-read : sameText (restAt groups 12) (timeAfter (scanned .last)) ≡ true → _≡_ {A = Judged} record { line = 0; at = head .at; count = scanned .count } (judgedBy (readOf text))
+        pub all-read : sameText (restAt groups 14) (timeAfter (scanned .last)) ≡ true → _≡_ {A = Judged} record { line = 0; at = head .at; count = scanned .count } (judgedBy (readOf e text))
         unfolding readBehind judgedBy numberAt
         all-read d =
             (λ i. record { line = 0; at = p .at-is i; count = count-is i })
             ∙ sym (ap judgedBy (is-read
-            ∙ unless-yes (1 + length (flatten (take 15 groups)) + length points) _ (sym all-is ∙ f)
-            ∙ unless-yes (1 + length (flatten (take 11 groups))) _ (ap (λ x. sameText (restAt groups 11) (timeAfter x)) (sym first-is) ∙ b)
-            ∙ unless-yes (1 + length (flatten (take 12 groups))) _ (ap (λ x. sameText (restAt groups 12) (timeAfter x)) (sym last-is) ∙ d)))
+            ∙ unless-yes (1 + length (flatten (take 17 groups)) + length points) _ (sym all-is ∙ f)
+            ∙ unless-yes (1 + length (flatten (take 13 groups))) _ (ap (λ x. sameText (restAt groups 13) (timeAfter x)) (sym first-is) ∙ b)
+            ∙ unless-yes (1 + length (flatten (take 14 groups))) _ (ap (λ x. sameText (restAt groups 14) (timeAfter x)) (sym last-is) ∙ d)))

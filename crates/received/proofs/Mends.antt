@@ -14,13 +14,15 @@ use Rattle.text.specs.Places.{written, Wrote}
 use Rattle.text.specs.Pieces.{length-flatten}
 use Rattle.calendar.specs.Calendar.{momentOf}
 use Rattle.calendar.specs.Back.{text-long}
+use Rattle.message.specs.declared.Edition.{Edition}
 use Rattle.message.specs.Message.{entry, says, timeAfter}
 use Rattle.received.specs.declared.Mended.{Mended}
 use Rattle.received.specs.declared.planning.Plan.{Plan}
+use Rattle.received.specs.Versions.{isOther}
 use Rattle.received.specs.Data.{keptOf}
 use Rattle.received.specs.Mending.{Change, dropsFrom, Mend, Mends, Cannot, mendOf, words}
 use Rattle.received.specs.MendAnswer.{unmended, hasRooms, mendedBy, outBy, changesBy, mendedTo, outAfter, changesAfter}
-use Rattle.received.specs.Planning.{dataLines, changeUnless, headOf, plannedText, plannedList, roomIn, Planned}
+use Rattle.received.specs.Planning.{dataLines, changeUnless, headOf, plannedText, plannedList, roomIn, Planned, PlanOf}
 use Rattle.received.proofs.Cuts.{flatten-append}
 
 -- ---- two words a change
@@ -109,19 +111,40 @@ from-start before text after end w =
     let n : 0 + length text ≡ length text = omega arith in
     w .holds ∙ ap (λ k. text ++ drop k before) n
 
-module _ (text out changes : List ℕ) where
+module _ (e : Edition) (text out changes : List ℕ) where
   abbrev Answered : Mended → List ℕ → List ℕ → Type 0
-  Answered r o c = (r ≡ mendedTo text out changes) × (o ≡ outAfter text out changes) × (c ≡ changesAfter text out changes)
+  Answered r o c = (r ≡ mendedTo e text out changes) × (o ≡ outAfter e text out changes) × (c ≡ changesAfter e text out changes)
 
-  pub cannot : mendOf text ≡ Cannot → Answered (unmended 16) out changes
+  abbrev Answers : Mended → List ℕ → List ℕ → Type 0
+  Answers r o c =
+      (r ≡ mendedBy (mendOf e text) out changes) × (o ≡ outBy (mendOf e text) out changes) × (c ≡ changesBy (mendOf e text) out changes)
+
+  -- the text names another version
+  pub other : isOther e text ≡ true → Answered (unmended 17) out changes
   unfolding mendedTo outAfter changesAfter
-  cannot e = (
-    sym (ap (λ m. mendedBy m out changes) e),
-    sym (ap (λ m. outBy m out changes) e),
-    sym (ap (λ m. changesBy m out changes) e),
+  other n = (
+    sym (ap (λ t. cond t (unmended 17) (mendedBy (mendOf e text) out changes)) n),
+    sym (ap (λ t. cond t out (outBy (mendOf e text) out changes)) n),
+    sym (ap (λ t. cond t changes (changesBy (mendOf e text) out changes)) n),
   )
 
-  module _ (p : Plan) (h : Planned text p) where
+  -- it does not
+  pub own : isOther e text ≡ false → {r : Mended} {o c : List ℕ} → Answers r o c → Answered r o c
+  unfolding mendedTo outAfter changesAfter
+  own n a = (
+    a .0 ∙ sym (ap (λ t. cond t (unmended 17) (mendedBy (mendOf e text) out changes)) n),
+    a .1 ∙ sym (ap (λ t. cond t out (outBy (mendOf e text) out changes)) n),
+    a .2 ∙ sym (ap (λ t. cond t changes (changesBy (mendOf e text) out changes)) n),
+  )
+
+  pub cannot : mendOf e text ≡ Cannot → Answers (unmended 16) out changes
+  cannot m = (
+    sym (ap (λ x. mendedBy x out changes) m),
+    sym (ap (λ x. outBy x out changes) m),
+    sym (ap (λ x. changesBy x out changes) m),
+  )
+
+  module _ (p : Plan) (h : PlanOf e text p) where
     abbrev list : List Change
     list = plannedList text p
 
@@ -129,8 +152,7 @@ module _ (text out changes : List ℕ) where
     unfolding hasRooms roomIn
     same-room = ap (λ s. leb (length s) (length out) and leb (length (words list)) (length changes)) (h .text-is)
 
-    pub no-room : roomIn text p (length out) (length changes) ≡ false → Answered (unmended 12) out changes
-    unfolding mendedTo outAfter changesAfter
+    pub no-room : roomIn text p (length out) (length changes) ≡ false → Answers (unmended 12) out changes
     no-room f =
         let n = same-room ∙ f in (
           sym (ap (λ m. mendedBy m out changes) (h .gives) ∙ ap (λ t. cond t (record { number = 0; length = length (flatten (h .lines)); changes = length list }) (unmended 12)) n),
@@ -146,8 +168,7 @@ module _ (text out changes : List ℕ) where
           (leb-true (length (plannedText text p)) (length out) a, leb-true (length (words list)) (length changes) b)
 
       pub mends : {o : List ℕ} {n : ℕ} → Wrote out 0 (plannedText text p) o n → {c : List ℕ} {k : ℕ} → Wrote changes 0 (words list) c k
-          → Answered (record { number = 0; length = n; changes = k / 2 }) o c
-      unfolding mendedTo outAfter changesAfter
+          → Answers (record { number = 0; length = n; changes = k / 2 }) o c
       mends {o} {n} v {c} {k} w =
           let t = same-room ∙ f in
           let size : n ≡ length (flatten (h .lines)) = omega (arith, v .ends, ap length (h .text-is)) in

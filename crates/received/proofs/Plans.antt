@@ -10,6 +10,7 @@ use Rattle.integers.specs.Tests.{clash}
 use Rattle.text.specs.Numbers.{ascii}
 use Rattle.calendar.specs.Calendar.{mostSeconds}
 use Rattle.calendar.specs.Text.{sameText}
+use Rattle.message.specs.declared.Edition.{Edition}
 use Rattle.message.specs.Message.{says, timeAfter}
 use Rattle.received.specs.declared.heads.Spot.{Spot}
 use Rattle.received.specs.declared.surveying.Surveyed.{Surveyed}
@@ -21,7 +22,7 @@ use Rattle.received.specs.Data.{pointIn, keptOf, firstSeconds, lastSecon
 use Rattle.received.specs.Reading.{frontAt, restAt, numberAt}
 use Rattle.received.specs.Mending.{Change, change, dropsFrom, timeChange, withTimes, Mend, Mends, Cannot, mendWith, mendBy, mendOf}
 use Rattle.received.specs.Finding.{bytesOf, spot, spotFrom, Inside, groupsOf, isThrough, walkOver}
-use Rattle.received.specs.Planning.{surveyedBy, surveyOf, changeUnless, headOf, plannedText, plannedList, Planned}
+use Rattle.received.specs.Planning.{surveyedBy, surveyOf, changeUnless, headOf, plannedText, plannedList, Planned, PlanOf}
 use Rattle.received.proofs.Cuts.{lines-back, lines-drop, flatten-append, bytes-append}
 use Rattle.received.proofs.Walks.{Sound, walk-sound}
 use Rattle.received.proofs.Reached.{filled, slot-begins, next-begins, line-long}
@@ -45,44 +46,44 @@ flat-two s t before behind =
 -- ---- the lines before the data
 
 -- the walk goes through, and a spot is behind them
-pub record Headed (text : List ℕ) (head : Spot) : Type 0 where
+pub record Headed (e : Edition) (text : List ℕ) (head : Spot) : Type 0 where
   pub rest : List (List ℕ)
-  pub through : isThrough (walkOver text) ≡ true
-  pub walked : walkOver text ≡ Through (groupsOf (walkOver text)) rest
-  pub lines-are : linesIn text ≡ flatten (groupsOf (walkOver text)) ++ rest
-  pub fill : FillAll slots (groupsOf (walkOver text))
-  pub at-is : head .at ≡ bytesOf (flatten (groupsOf (walkOver text)))
-  pub line-is : head .line ≡ numberAt (groupsOf (walkOver text)) 15
+  pub through : isThrough (walkOver e text) ≡ true
+  pub walked : walkOver e text ≡ Through (groupsOf (walkOver e text)) rest
+  pub lines-are : linesIn text ≡ flatten (groupsOf (walkOver e text)) ++ rest
+  pub fill : FillAll (slots e) (groupsOf (walkOver e text))
+  pub at-is : head .at ≡ bytesOf (flatten (groupsOf (walkOver e text)))
+  pub line-is : head .line ≡ numberAt (groupsOf (walkOver e text)) 17
 
-module _ (text : List ℕ) {head : Spot} (e : head ≡ spotFrom 0 1 (walkOver text)) where
-  headed-by : (w : Walked) → walkOver text ≡ w → Sound slots (linesIn text) w → head ≡ spotFrom 0 1 w → head .good ≡ true → Headed text head
+module _ (e : Edition) (text : List ℕ) {head : Spot} (p : head ≡ spotFrom 0 1 (walkOver e text)) where
+  headed-by : (w : Walked) → walkOver e text ≡ w → Sound (slots e) (linesIn text) w → head ≡ spotFrom 0 1 w → head .good ≡ true → Headed e text head
   unfolding spotFrom numberAt
-  headed-by (Through groups rest) q (l, f) e g =
-      let same : groupsOf (walkOver text) ≡ groups = ap groupsOf q in
-      let place : head .at ≡ bytesOf (flatten groups) = omega (arith, ap (λ p. p .at) e) in
-      let all : take 15 groups ≡ groups = take-all 15 groups (omega (arith, filled slots groups f)) in
+  headed-by (Through groups rest) q (l, f) s g =
+      let same : groupsOf (walkOver e text) ≡ groups = ap groupsOf q in
+      let place : head .at ≡ bytesOf (flatten groups) = omega (arith, ap (λ p. p .at) s) in
+      let all : take 17 groups ≡ groups = take-all 17 groups (omega (arith, filled (slots e) groups f)) in
       record {
         rest = rest;
         through = ap isThrough q;
         walked = q ∙ ap (λ gs. Through gs rest) (sym same);
         lines-are = l ∙ ap (λ gs. flatten gs ++ rest) (sym same);
-        fill = subst (FillAll slots) (sym same) f;
+        fill = subst (FillAll (slots e)) (sym same) f;
         at-is = place ∙ ap (λ gs. bytesOf (flatten gs)) (sym same);
-        line-is = ap (λ p. p .line) e ∙ ap (λ gs. 1 + length (flatten gs)) (sym all ∙ ap (take 15) (sym same));
+        line-is = ap (λ p. p .line) s ∙ ap (λ gs. 1 + length (flatten gs)) (sym all ∙ ap (take 17) (sym same));
       }
-  headed-by (Stopped before) q s e g = clash g (ap (λ p. p .good) e)
+  headed-by (Stopped before) q s r g = clash g (ap (λ p. p .good) r)
 
-  pub headed : head .good ≡ true → Headed text head
-  headed g = headed-by (walkOver text) refl (walk-sound slots (linesIn text)) e g
+  pub headed : head .good ≡ true → Headed e text head
+  headed g = headed-by (walkOver e text) refl (walk-sound (slots e) (linesIn text)) p g
 
   cannot-by : (w : Walked) → head ≡ spotFrom 0 1 w → head .good ≡ false → mendBy w ≡ Cannot
   unfolding spotFrom mendBy
   cannot-by (Through groups rest) e g = clash (ap (λ p. p .good) e) g
   cannot-by (Stopped before) e g = refl
 
-  pub no-head : head .good ≡ false → mendOf text ≡ Cannot
+  pub no-head : head .good ≡ false → mendOf e text ≡ Cannot
   unfolding mendOf
-  no-head g = cannot-by (walkOver text) e g
+  no-head g = cannot-by (walkOver e text) p g
 
 -- ---- what mending gives, by the lines kept
 
@@ -95,25 +96,25 @@ module _ (groups : List (List (List ℕ))) (rest : List (List ℕ)) where
   some-by : (kept : List (List ℕ)) → (length kept ≡ 0 → ⊥)
       → mendWith groups rest kept
       ≡ Mends (flatten (withTimes groups (firstSeconds (map pointIn kept)) (lastSeconds (map pointIn kept))) ++ kept)
-      (timeChange groups 11 2 (firstSeconds (map pointIn kept))
-      ++ (timeChange groups 12 3 (lastSeconds (map pointIn kept)) ++ dropsFrom (numberAt groups 15) 0 rest))
+      (timeChange groups 13 2 (firstSeconds (map pointIn kept))
+      ++ (timeChange groups 14 3 (lastSeconds (map pointIn kept)) ++ dropsFrom (numberAt groups 17) 0 rest))
   unfolding mendWith
   some-by [] n = absurd (n refl)
   some-by (line ∷ lines) n = refl
 
 -- ---- the parts of the text
 
-module _ (text : List ℕ) {head : Spot} (h : Headed text head) where
+module _ (e : Edition) (text : List ℕ) {head : Spot} (h : Headed e text head) where
   abbrev groups : List (List (List ℕ))
-  groups = groupsOf (walkOver text)
+  groups = groupsOf (walkOver e text)
 
-  fifteen : length groups ≡ 15
-  fifteen = filled slots groups (h .fill)
+  seventeen : length groups ≡ 17
+  seventeen = filled (slots e) groups (h .fill)
 
   behind : linesIn (drop (head .at) text) ≡ h .rest
   behind = ap (λ n. linesIn (drop n text)) (h .at-is) ∙ lines-drop (flatten groups) text (h .rest) (h .lines-are)
 
-  pub none-left : length (keptOf 0 (linesIn (drop (head .at) text))) ≡ 0 → mendOf text ≡ Cannot
+  pub none-left : length (keptOf 0 (linesIn (drop (head .at) text))) ≡ 0 → mendOf e text ≡ Cannot
   unfolding mendOf mendBy
   none-left z = ap mendBy (h .walked) ∙ none-by groups (h .rest) (keptOf 0 (h .rest)) (ap (λ ls. length (keptOf 0 ls)) (sym behind) ∙ z)
 
@@ -152,26 +153,26 @@ module _ (text : List ℕ) {head : Spot} (h : Headed text head) where
         ∙ take-at onward (flatten (h .rest)) m (omega (arith, sizes))
 
   -- START_TIME and STOP_TIME are a line each
-  next-number : numberAt groups 12 ≡ numberAt groups 11 + 1
+  next-number : numberAt groups 14 ≡ numberAt groups 13 + 1
   unfolding numberAt flatten
   next-number =
-      let one : take 12 groups ≡ take 11 groups ++ (getD groups 11 [] ∷ []) = take-suc groups 11 [] (omega (arith, fifteen)) in
-      let n : length (flatten (take 12 groups)) ≡ length (flatten (take 11 groups)) + 1 =
+      let one : take 14 groups ≡ take 13 groups ++ (getD groups 13 [] ∷ []) = take-suc groups 13 [] (omega (arith, seventeen)) in
+      let n : length (flatten (take 14 groups)) ≡ length (flatten (take 13 groups)) + 1 =
       ap (λ gs. length (flatten gs)) one
-      ∙ ap length (flatten-append (take 11 groups) (getD groups 11 [] ∷ []))
-      ∙ ap (λ g. length (flatten (take 11 groups) ++ g)) (append-nil (getD groups 11 []) ∙ group-is groups (h .fill) 11 (omega arith) refl)
-      ∙ length-append (flatten (take 11 groups)) (lineWith (frontAt 11) (restAt groups 11) ∷ []) in
+      ∙ ap length (flatten-append (take 13 groups) (getD groups 13 [] ∷ []))
+      ∙ ap (λ g. length (flatten (take 13 groups) ++ g)) (append-nil (getD groups 13 []) ∙ group-is e groups (h .fill) 13 (omega arith) refl)
+      ∙ length-append (flatten (take 13 groups)) (lineWith (frontAt 13) (restAt groups 13) ∷ []) in
       omega (arith, n)
 
-  both-long : length (flatten (flatten (take 11 groups))) + 26 ≤ length (flatten (flatten (take 13 groups)))
+  both-long : length (flatten (flatten (take 13 groups))) + 26 ≤ length (flatten (flatten (take 15 groups)))
   unfolding ascii
   both-long =
       omega (
         arith,
-        next-begins text (h .through) 11 (omega arith) refl,
-        line-long text (h .through) 11 (omega arith) refl,
-        next-begins text (h .through) 12 (omega arith) refl,
-        line-long text (h .through) 12 (omega arith) refl,
+        next-begins e text (h .through) 13 (omega arith) refl,
+        line-long e text (h .through) 13 (omega arith) refl,
+        next-begins e text (h .through) 14 (omega arith) refl,
+        line-long e text (h .through) 14 (omega arith) refl,
       )
 
   -- ---- the plan
@@ -180,7 +181,7 @@ module _ (text : List ℕ) {head : Spot} (h : Headed text head) where
     abbrev kept : List (List ℕ)
     kept = keptOf 0 (linesIn (drop (head .at) text))
 
-    pub none-kept : d .kept ≡ 0 → mendOf text ≡ Cannot
+    pub none-kept : d .kept ≡ 0 → mendOf e text ≡ Cannot
     unfolding surveyedBy
     none-kept z = none-left (sym (ap (λ x. x .kept) survey) ∙ z)
 
@@ -196,9 +197,9 @@ module _ (text : List ℕ) {head : Spot} (h : Headed text head) where
     unfolding surveyedBy
     some-kept n z = n (ap (λ x. x .kept) survey ∙ ap (λ ls. length (keptOf 0 ls)) behind ∙ z)
 
-    module _ (n : d .kept ≡ 0 → ⊥) {start stop : Spot} (b : start ≡ spotFrom 0 1 (walk (take 11 slots) (linesIn text)))
-        (f : stop ≡ spotFrom 0 1 (walk (take 13 slots) (linesIn text))) {starts stops : Bool} (u : starts ≡ sameText (restAt groups 11) (timeAfter (d .first)))
-        (v : stops ≡ sameText (restAt groups 12) (timeAfter (d .last))) where
+    module _ (n : d .kept ≡ 0 → ⊥) {start stop : Spot} (b : start ≡ spotFrom 0 1 (walk (take 13 (slots e)) (linesIn text)))
+        (f : stop ≡ spotFrom 0 1 (walk (take 15 (slots e)) (linesIn text))) {starts stops : Bool} (u : starts ≡ sameText (restAt groups 13) (timeAfter (d .first)))
+        (v : stops ≡ sameText (restAt groups 14) (timeAfter (d .last))) where
       abbrev plan : Plan
       plan =
           record {
@@ -216,15 +217,15 @@ module _ (text : List ℕ) {head : Spot} (h : Headed text head) where
             dropped = d .dropped;
           }
 
-      start-at : start .at ≡ length (upTo 11)
-      start-at = omega (arith, ap (λ p. p .at) (b ∙ slot-begins text 11 (omega arith) (h .through)))
+      start-at : start .at ≡ length (upTo 13)
+      start-at = omega (arith, ap (λ p. p .at) (b ∙ slot-begins e text 13 (omega arith) (h .through)))
 
-      stop-at : stop .at ≡ length (upTo 13)
-      stop-at = omega (arith, ap (λ p. p .at) (f ∙ slot-begins text 13 (omega arith) (h .through)))
+      stop-at : stop .at ≡ length (upTo 15)
+      stop-at = omega (arith, ap (λ p. p .at) (f ∙ slot-begins e text 15 (omega arith) (h .through)))
 
-      start-line : start .line ≡ numberAt groups 11
+      start-line : start .line ≡ numberAt groups 13
       unfolding numberAt
-      start-line = ap (λ p. p .line) (b ∙ slot-begins text 11 (omega arith) (h .through))
+      start-line = ap (λ p. p .line) (b ∙ slot-begins e text 13 (omega arith) (h .through))
 
       -- the head with its two times
       abbrev times : List (List (List ℕ))
@@ -235,12 +236,12 @@ module _ (text : List ℕ) {head : Spot} (h : Headed text head) where
       head-is =
           let s = says "START_TIME" (timeAfter (d .first)) in
           let t = says "STOP_TIME" (timeAfter (d .last)) in
-          ap (λ gs. flatten (flatten gs)) (two-set (s ∷ []) (t ∷ []) groups 11 (omega (arith, fifteen)))
-          ∙ flat-two s t (take 11 groups) (drop 13 groups)
-          ∙ sym (λ i. (ap (λ k. take k text) start-at ∙ front-part 11) i
+          ap (λ gs. flatten (flatten gs)) (two-set (s ∷ []) (t ∷ []) groups 13 (omega (arith, seventeen)))
+          ∙ flat-two s t (take 13 groups) (drop 15 groups)
+          ∙ sym (λ i. (ap (λ k. take k text) start-at ∙ front-part 13) i
           ++ (s ++ (t ++ (append-nil (take (head .at - stop .at) (drop (stop .at) text))
           ∙ (λ j. take (h .at-is j - stop-at j) (drop (stop-at j) text))
-          ∙ back-part 13) i)))
+          ∙ back-part 15) i)))
 
       abbrev out : List (List ℕ)
       out = flatten times ++ keptOf 0 (h .rest)
@@ -251,13 +252,13 @@ module _ (text : List ℕ) {head : Spot} (h : Headed text head) where
           flatten-append (flatten times) (keptOf 0 (h .rest))
           ∙ (λ i. head-is i ++ flatten (keptOf 0 (sym behind i)))
 
-      list-is : timeChange groups 11 2 (d .first) ++ (timeChange groups 12 3 (d .last) ++ dropsFrom (numberAt groups 15) 0 (h .rest)) ≡ plannedList text plan
+      list-is : timeChange groups 13 2 (d .first) ++ (timeChange groups 14 3 (d .last) ++ dropsFrom (numberAt groups 17) 0 (h .rest)) ≡ plannedList text plan
       unfolding timeChange plannedList changeUnless
       list-is =
           λ i. changeUnless (sym u i) (sym start-line i) 2
           ++ (changeUnless (sym v i) ((next-number ∙ ap (λ k. k + 1) (sym start-line)) i) 3 ++ dropsFrom (sym (h .line-is) i) 0 (sym behind i))
 
-      gives : mendOf text ≡ Mends out (plannedList text plan)
+      gives : mendOf e text ≡ Mends out (plannedList text plan)
       unfolding mendOf mendBy
       gives =
           let first = first-is ∙ ap (λ ls. firstSeconds (map pointIn (keptOf 0 ls))) behind in
@@ -265,24 +266,26 @@ module _ (text : List ℕ) {head : Spot} (h : Headed text head) where
           ap mendBy (h .walked)
           ∙ some-by groups (h .rest) (keptOf 0 (h .rest)) (some-kept n)
           ∙ (λ i. Mends (flatten (withTimes groups (sym first i) (sym last i)) ++ keptOf 0 (h .rest))
-          (timeChange groups 11 2 (sym first i) ++ (timeChange groups 12 3 (sym last i) ++ dropsFrom (numberAt groups 15) 0 (h .rest))))
+          (timeChange groups 13 2 (sym first i) ++ (timeChange groups 14 3 (sym last i) ++ dropsFrom (numberAt groups 17) 0 (h .rest))))
           ∙ ap (Mends out) list-is
 
       pub planned : head .at + d .bytes + d .dropped ≤ length text → d .first ≤ mostSeconds → d .last ≤ mostSeconds → Inside text (head .at) (head .line)
-          → Inside text (start .at) (start .line) → Planned text plan
+          → Inside text (start .at) (start .line) → PlanOf e text plan
       unfolding surveyedBy
       planned room early late i j =
           record {
             lines = out;
             gives = gives;
             text-is = text-is;
-            kept = ap (λ x. x .bytes) survey;
-            dropped = ap (λ x. x .dropped) survey ∙ drops-count 0 (head .line) 0 (linesIn (drop (head .at) text));
-            starts-early = early;
-            ends-early = late;
-            in-order = omega (arith, start-at, stop-at, both-long);
-            head-ends = omega (arith, stop-at, h .at-is, sizes 13);
-            within = room;
-            few = i .few;
-            early = j .few;
+            planned = record {
+              kept = ap (λ x. x .bytes) survey;
+              dropped = ap (λ x. x .dropped) survey ∙ drops-count 0 (head .line) 0 (linesIn (drop (head .at) text));
+              starts-early = early;
+              ends-early = late;
+              in-order = omega (arith, start-at, stop-at, both-long);
+              head-ends = omega (arith, stop-at, h .at-is, sizes 15);
+              within = room;
+              few = i .few;
+              early = j .few;
+            };
           }

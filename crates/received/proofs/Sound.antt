@@ -10,6 +10,7 @@ use borrow.Author.Tests.{ltb-true, leb-true, eqb-true}
 use Rattle.integers.specs.Tests.{_and_, joined}
 use Rattle.calendar.specs.Text.{sameText}
 use Rattle.calendar.specs.Back.{same-true}
+use Rattle.message.specs.declared.Edition.{Edition}
 use Rattle.message.specs.Message.{timeAfter}
 use Rattle.received.specs.Lines.{linesIn}
 use Rattle.received.specs.Slots.{FillAll, Walked, Through, Stopped, walk}
@@ -72,43 +73,43 @@ unfolding unless
 unless-reads true n r e = (refl, e)
 unless-reads false n r e = absurd (no-stop e)
 
-pub record WasRead (lines : List (List ℕ)) (groups : List (List (List ℕ))) (points : List Point) : Type 0 where
+pub record WasRead (e : Edition) (lines : List (List ℕ)) (groups : List (List (List ℕ))) (points : List Point) : Type 0 where
   pub rest : List (List ℕ)
   pub lines-are : lines ≡ flatten groups ++ rest
-  pub fill : FillAll slots groups
+  pub fill : FillAll (slots e) groups
   pub points-are : points ≡ pointsIn 0 rest
   pub all : allRead points rest ≡ true
-  pub start : restAt groups 11 ≡ timeAfter (firstSeconds points)
-  pub stop : restAt groups 12 ≡ timeAfter (lastSeconds points)
-  pub through : isThrough (walk slots lines) ≡ true
-  pub groups-are : groupsOf (walk slots lines) ≡ groups
+  pub start : restAt groups 13 ≡ timeAfter (firstSeconds points)
+  pub stop : restAt groups 14 ≡ timeAfter (lastSeconds points)
+  pub through : isThrough (walk (slots e) lines) ≡ true
+  pub groups-are : groupsOf (walk (slots e) lines) ≡ groups
 
-by-walk : (lines : List (List ℕ)) (w : Walked) → walk slots lines ≡ w → Sound slots lines w → {groups : List (List (List ℕ))} {points : List Point} → readBy w ≡ Reads groups points
-    → WasRead lines groups points
+by-walk : (e : Edition) (lines : List (List ℕ)) (w : Walked) → walk (slots e) lines ≡ w → Sound (slots e) lines w → {groups : List (List (List ℕ))} {points : List Point} → readBy w ≡ Reads groups points
+    → WasRead e lines groups points
 unfolding readBy readBehind
-by-walk lines (Through gs rest) q (l, f) {groups} {points} e =
+by-walk e lines (Through gs rest) q (l, f) {groups} {points} r =
     let ps = pointsIn 0 rest in
-    let (a, e1) = unless-reads (allRead ps rest) (numberAt gs 15 + length ps) _ e in
-    let (b, e2) = unless-reads (sameText (restAt gs 11) (timeAfter (firstSeconds ps))) (numberAt gs 11) _ e1 in
-    let (c, e3) = unless-reads (sameText (restAt gs 12) (timeAfter (lastSeconds ps))) (numberAt gs 12) (Reads gs ps) e2 in
-    let here : WasRead lines gs ps =
+    let (a, e1) = unless-reads (allRead ps rest) (numberAt gs 17 + length ps) _ r in
+    let (b, e2) = unless-reads (sameText (restAt gs 13) (timeAfter (firstSeconds ps))) (numberAt gs 13) _ e1 in
+    let (c, e3) = unless-reads (sameText (restAt gs 14) (timeAfter (lastSeconds ps))) (numberAt gs 14) (Reads gs ps) e2 in
+    let here : WasRead e lines gs ps =
     record {
       rest = rest;
       lines-are = l;
       fill = f;
       points-are = refl;
       all = a;
-      start = same-true (restAt gs 11) (timeAfter (firstSeconds ps)) b;
-      stop = same-true (restAt gs 12) (timeAfter (lastSeconds ps)) c;
+      start = same-true (restAt gs 13) (timeAfter (firstSeconds ps)) b;
+      stop = same-true (restAt gs 14) (timeAfter (lastSeconds ps)) c;
       through = ap isThrough q;
       groups-are = ap groupsOf q;
     } in
-    subst (λ r. WasRead lines (groupsRead r) (pointsRead r)) e3 here
-by-walk lines (Stopped before) q s e = absurd (no-stop e)
+    subst (λ r. WasRead e lines (groupsRead r) (pointsRead r)) e3 here
+by-walk e lines (Stopped before) q s r = absurd (no-stop r)
 
-pub was-read : (lines : List (List ℕ)) {groups : List (List (List ℕ))} {points : List Point} → readLines lines ≡ Reads groups points → WasRead lines groups points
+pub was-read : (e : Edition) (lines : List (List ℕ)) {groups : List (List (List ℕ))} {points : List Point} → readLines e lines ≡ Reads groups points → WasRead e lines groups points
 unfolding readLines
-was-read lines e = by-walk lines (walk slots lines) refl (walk-sound slots lines) e
+was-read e lines r = by-walk e lines (walk (slots e) lines) refl (walk-sound (slots e) lines) r
 
 all-counted : (points : List Point) (lines : List (List ℕ)) → allRead points lines ≡ true → (0 < length points) × (length points ≡ length lines)
 unfolding allRead
@@ -116,10 +117,10 @@ all-counted points lines a = let (p, q) = simp joined at a in (ltb-true 0 (lengt
 
 -- ---- and so it says the message
 
-module _ (text : List ℕ) {groups : List (List (List ℕ))} {points : List Point} (e : readOf text ≡ Reads groups points) where
-  pub found : WasRead (linesIn text) groups points
+module _ (e : Edition) (text : List ℕ) {groups : List (List (List ℕ))} {points : List Point} (r : readOf e text ≡ Reads groups points) where
+  pub found : WasRead e (linesIn text) groups points
   unfolding readOf
-  found = was-read (linesIn text) e
+  found = was-read e (linesIn text) r
 
   pub counts : (0 < length points) × (length points ≡ length (found .rest))
   counts = all-counted points (found .rest) (found .all)
@@ -129,11 +130,11 @@ module _ (text : List ℕ) {groups : List (List (List ℕ))} {points : List Poin
       subst (AllData 0 (found .rest)) (sym (found .points-are))
       (data-sound 0 (found .rest) (ap length (sym (found .points-are)) ∙ counts .1))
 
-  pub read-says : Says text (messageIn groups points)
+  pub read-says : Says e text (messageIn groups points)
   unfolding messageIn
   read-says =
       record {
-        holds = head-holds groups (found .fill) points (counts .0) (all-data .each) (all-data .rising);
+        holds = head-holds e groups (found .fill) points (counts .0) (all-data .each) (all-data .rising);
         text-is =
             sym (lines-back text)
             ∙ ap flatten
@@ -141,5 +142,5 @@ module _ (text : List ℕ) {groups : List (List (List ℕ))} {points : List Poin
             ∙ (λ i. flatten (head i) ++ all-data .lines-are i));
       }
     where
-      head : groups ≡ headOf (messageIn groups points) (timeAfter (firstSeconds points)) (timeAfter (lastSeconds points))
-      head = head-back groups (found .fill) points ∙ (λ i. headOf (messageIn groups points) (found .start i) (found .stop i))
+      head : groups ≡ headOf e (messageIn groups points) (timeAfter (firstSeconds points)) (timeAfter (lastSeconds points))
+      head = head-back e groups (found .fill) points ∙ (λ i. headOf e (messageIn groups points) (found .start i) (found .stop i))

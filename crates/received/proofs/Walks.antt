@@ -10,7 +10,7 @@ use lib.ListN.{length, take, drop, getD, length-append}
 use lib.Seq.{drop-drop}
 use Rattle.received.specs.declared.heads.Spot.{Spot}
 use Rattle.received.specs.Lines.{linesIn, pastLine}
-use Rattle.received.specs.Slots.{Form, isOf, Slot, one, any, AllOf, FillAll, Walked, Through, Stopped, leading, behind, after, walk}
+use Rattle.received.specs.Slots.{Form, isOf, Slot, one, perhaps, any, AllOf, Fills, FillAll, Walked, Through, Stopped, leading, behind, firstOf, pastFirst, after, walk}
 use Rattle.received.specs.Finding.{bytesOf, spot, spotFrom}
 use Rattle.received.proofs.Cuts.{between, past-end, past-more, at-line, line-long, bytes-append, flatten-append, lines-drop}
 
@@ -37,6 +37,29 @@ leading-all f (line ∷ lines) = by (isOf f line) refl (leading-all f lines)
     by true e ih = (e, ih)
     by false e ih = tt
 
+first-past : (may : Bool) (f : Form) (lines : List (List ℕ)) → lines ≡ firstOf may f lines ++ pastFirst may f lines
+unfolding firstOf pastFirst
+first-past false f lines = refl
+first-past true f [] = refl
+first-past true f (line ∷ lines) = by (isOf f line)
+  where
+    by : (t : Bool)
+        → line ∷ lines
+        ≡ elim t as (λ _. List (List ℕ)) [ true ↦ line ∷ [] | false ↦ [] ]
+        ++ elim t as (λ _. List (List ℕ)) [ true ↦ lines | false ↦ line ∷ lines ]
+    by true = refl
+    by false = refl
+
+first-fills : (may : Bool) (f : Form) (lines : List (List ℕ)) → Fills (perhaps may f) (firstOf may f lines)
+unfolding firstOf
+first-fills false f lines = tt
+first-fills true f [] = tt
+first-fills true f (line ∷ lines) = by (isOf f line) refl
+  where
+    by : (t : Bool) → isOf f line ≡ t → Fills (perhaps true f) (elim t as (λ _. List (List ℕ)) [ true ↦ line ∷ [] | false ↦ [] ])
+    by true e = (refl, e)
+    by false e = tt
+
 -- the groups are the slots' and stand first; or the lines before the stop do
 abbrev pub Sound : List Slot → List (List ℕ) → Walked → Type 0
 Sound slots lines (Through groups rest) = (lines ≡ flatten groups ++ rest) × FillAll slots groups
@@ -59,6 +82,10 @@ walk-sound (one f ∷ slots) (line ∷ lines) = by (isOf f line) refl (walk-soun
         → Sound (one f ∷ slots) (line ∷ lines) (elim t as (λ _. Walked) [ true ↦ after (line ∷ []) (walk slots lines) | false ↦ Stopped [] ])
     by true e ih = after-sound (one f) slots (line ∷ []) lines (walk slots lines) ih (λ groups g. (e, g))
     by false e ih = (line ∷ lines, refl)
+walk-sound (perhaps may f ∷ slots) lines =
+    subst (λ ls. Sound (perhaps may f ∷ slots) ls (after (firstOf may f lines) (walk slots (pastFirst may f lines)))) (sym (first-past may f lines))
+    (after-sound (perhaps may f) slots (firstOf may f lines) (pastFirst may f lines) (walk slots (pastFirst may f lines))
+    (walk-sound slots (pastFirst may f lines)) (λ groups g. (first-fills may f lines, g)))
 walk-sound (any f ∷ slots) lines =
     subst (λ ls. Sound (any f ∷ slots) ls (after (leading f lines) (walk slots (behind f lines)))) (sym (leading-behind f lines))
     (after-sound (any f) slots (leading f lines) (behind f lines) (walk slots (behind f lines)) (walk-sound slots (behind f lines))
@@ -90,6 +117,9 @@ walk-append (one f ∷ first) slots (line ∷ lines) = by (isOf f line) (walk-ap
         ≡ next slots (elim t as (λ _. Walked) [ true ↦ after (line ∷ []) (walk first lines) | false ↦ Stopped [] ])
     by true ih = ap (after (line ∷ [])) ih ∙ after-next slots (line ∷ []) (walk first lines)
     by false ih = refl
+walk-append (perhaps may f ∷ first) slots lines =
+    ap (after (firstOf may f lines)) (walk-append first slots (pastFirst may f lines))
+    ∙ after-next slots (firstOf may f lines) (walk first (pastFirst may f lines))
 walk-append (any f ∷ first) slots lines =
     ap (after (leading f lines)) (walk-append first slots (behind f lines)) ∙ after-next slots (leading f lines) (walk first (behind f lines))
 
@@ -212,3 +242,35 @@ module _ (f : Form) (text : List ℕ) (at line : ℕ) where
   pub any-spot : spot true at line (leading f (linesIn (drop at text))) ≡ spotFrom at line (walk (any f ∷ []) (linesIn (drop at text)))
   unfolding walk spotFrom after flatten
   any-spot = ap (spot true at line) (sym (append-nil (leading f (linesIn (drop at text)))))
+
+  -- a slot for one line or none
+  pub not-there : {may : Bool} (lines : List (List ℕ)) → may ≡ false → record { good = true; at = at; line = line } ≡ spotFrom at line (walk (perhaps may f ∷ []) lines)
+  unfolding walk spotFrom after flatten firstOf pastFirst
+  not-there lines e = sym (ap (λ m. spotFrom at line (walk (perhaps m f ∷ []) lines)) e ∙ spot-none true at line)
+
+  there-by : (lines : List (List ℕ))
+      → _≡_ {A = Spot} record { good = true; at = spotFrom at line (walk (one f ∷ []) lines) .at; line = spotFrom at line (walk (one f ∷ []) lines) .line }
+      (spotFrom at line (walk (perhaps true f ∷ []) lines))
+  unfolding walk spotFrom after flatten firstOf pastFirst
+  there-by [] = refl
+  there-by (l ∷ lines) = by (isOf f l)
+    where
+      by : (t : Bool)
+          → _≡_ {A = Spot}
+          record {
+            good = true;
+            at = spotFrom at line (elim t as (λ _. Walked) [ true ↦ after (l ∷ []) (Through [] lines) | false ↦ Stopped [] ]) .at;
+            line = spotFrom at line (elim t as (λ _. Walked) [ true ↦ after (l ∷ []) (Through [] lines) | false ↦ Stopped [] ]) .line;
+          }
+          (spotFrom at line
+          (after (elim t as (λ _. List (List ℕ)) [ true ↦ l ∷ [] | false ↦ [] ])
+          (Through [] (elim t as (λ _. List (List ℕ)) [ true ↦ lines | false ↦ l ∷ lines ]))))
+      by true = refl
+      by false = refl
+
+  pub if-there : {may : Bool} (lines : List (List ℕ)) → may ≡ true → {p : Spot} → p ≡ spotFrom at line (walk (one f ∷ []) lines)
+      → record { good = true; at = p .at; line = p .line } ≡ spotFrom at line (walk (perhaps may f ∷ []) lines)
+  if-there lines e p =
+      ap (λ q. record { good = true; at = q .at; line = q .line }) p
+      ∙ there-by lines
+      ∙ ap (λ m. spotFrom at line (walk (perhaps m f ∷ []) lines)) (sym e)

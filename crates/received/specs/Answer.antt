@@ -6,8 +6,10 @@ use lib.Dec.{leb}
 use lib.IntN.{ℤ}
 use lib.ListN.{length, take, drop}
 use Rattle.integers.specs.Tests.{_and_}
+use Rattle.message.specs.declared.Edition.{Edition}
 use Rattle.received.specs.declared.Place.{Place}
 use Rattle.received.specs.declared.Received.{Received}
+use Rattle.received.specs.Versions.{isOther}
 use Rattle.received.specs.Data.{Point}
 use Rattle.received.specs.Reading.{frontAt, restAt, Read, Reads, Stops, readOf}
 
@@ -21,7 +23,7 @@ placeAt groups k =
 abbrev pub nowhere : Place
 nowhere = record { start = 0; length = 0 }
 
--- a refusal: 15 with the number of a line, or 12 with 0
+-- a refusal: 15 with the number of a line, or 17 or 12 with 0
 abbrev pub refusedBy : ℕ → ℕ → Received
 refusedBy number line =
     record {
@@ -42,12 +44,12 @@ received groups count =
       number = 0;
       line = 0;
       count = count;
-      created = placeAt groups 2;
-      originator = placeAt groups 3;
-      object = placeAt groups 6;
-      id = placeAt groups 7;
-      center = placeAt groups 8;
-      frame = placeAt groups 9;
+      created = placeAt groups 3;
+      originator = placeAt groups 4;
+      object = placeAt groups 8;
+      id = placeAt groups 9;
+      center = placeAt groups 10;
+      frame = placeAt groups 11;
     }
 
 -- ---- the rooms: one number for each point, and six
@@ -79,11 +81,13 @@ valuesBy (Stops line) epochs values = values
 valuesBy (Reads groups points) epochs values =
     cond (hasRoom (length points) (length epochs) (length values)) (valuesOf points ++ drop (6 * length points) values) values
 
-unfoldable pub answerTo : List ℕ → List ℕ → List ℤ → Received
-answerTo text epochs values = answerBy (readOf text) epochs values
+-- ---- by the reader of an edition: 17 first
 
-unfoldable pub epochsAfter : List ℕ → List ℕ → List ℤ → List ℕ
-epochsAfter text epochs values = epochsBy (readOf text) epochs values
+unfoldable pub answerTo : Edition → List ℕ → List ℕ → List ℤ → Received
+answerTo e text epochs values = cond (isOther e text) (refusedBy 17 0) (answerBy (readOf e text) epochs values)
 
-unfoldable pub valuesAfter : List ℕ → List ℕ → List ℤ → List ℤ
-valuesAfter text epochs values = valuesBy (readOf text) epochs values
+unfoldable pub epochsAfter : Edition → List ℕ → List ℕ → List ℤ → List ℕ
+epochsAfter e text epochs values = cond (isOther e text) epochs (epochsBy (readOf e text) epochs values)
+
+unfoldable pub valuesAfter : Edition → List ℕ → List ℕ → List ℤ → List ℤ
+valuesAfter e text epochs values = cond (isOther e text) values (valuesBy (readOf e text) epochs values)

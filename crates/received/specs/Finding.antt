@@ -3,17 +3,31 @@ use Prim.Native.Nat.{ℕ, _+_, _≤_}
 use mathlib.Core.Bool.{Bool, true, false}
 use mathlib.Core.List.{List, [], _∷_, flatten}
 use lib.ListN.{length, take, drop}
+use Rattle.message.specs.declared.Edition.{Edition}
 use Rattle.received.specs.declared.heads.Spot.{Spot}
 use Rattle.received.specs.declared.data.Scanned.{Scanned}
 use Rattle.received.specs.declared.judging.Judged.{Judged}
 use Rattle.received.specs.Lines.{linesIn}
-use Rattle.received.specs.Slots.{Slot, one, any, Walked, Through, Stopped, walk}
+use Rattle.received.specs.Slots.{Slot, one, perhaps, any, Walked, Through, Stopped, walk}
 use Rattle.received.specs.Profile.{slots}
 use Rattle.received.specs.Data.{Point, pointsIn, firstSeconds, lastSeconds}
 use Rattle.received.specs.Reading.{allRead, Read, Reads, Stops}
 
+-- ---- the kinds of slots
+
+abbrev pub isOne : Slot → Bool
+isOne (one f) = true
+isOne (perhaps may f) = false
+isOne (any f) = false
+
+abbrev pub isPerhaps : Slot → Bool
+isPerhaps (one f) = false
+isPerhaps (perhaps may f) = true
+isPerhaps (any f) = false
+
 abbrev pub isAny : Slot → Bool
 isAny (one f) = false
+isAny (perhaps may f) = false
 isAny (any f) = true
 
 -- ---- places
@@ -45,8 +59,8 @@ abbrev pub isThrough : Walked → Bool
 isThrough (Through groups rest) = true
 isThrough (Stopped lines) = false
 
-abbrev pub walkOver : List ℕ → Walked
-walkOver text = walk slots (linesIn text)
+abbrev pub walkOver : Edition → List ℕ → Walked
+walkOver e text = walk (slots e) (linesIn text)
 
 -- ---- the data
 

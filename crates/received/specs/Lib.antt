@@ -1,7 +1,8 @@
--- What the contracts of `received` cite: lines (`Lines`), heads (`Slots`, `Profile`), data lines (`Data`), the readable messages (`Messages`),
+-- What the contracts of `received` cite: lines (`Lines`), the version that a text names (`Versions`), heads (`Slots`, `Profile`), data lines (`Data`), the readable messages (`Messages`),
 -- what is read (`Reading`), the answer (`Answer`), what mending gives (`Mending`) and answers (`MendAnswer`),
 -- and the ways there (`Finding`, `Planning`).
 pub mod Lines
+pub mod Versions
 pub mod Slots
 pub mod Profile
 pub mod Data

@@ -5,10 +5,12 @@ use mathlib.Core.List.{List, [], _∷_, _++_, flatten, map}
 use lib.Dec.{leb}
 use lib.ListN.{length, drop}
 use Rattle.integers.specs.Tests.{_and_}
+use Rattle.message.specs.declared.Edition.{Edition}
 use Rattle.received.specs.declared.Mended.{Mended}
+use Rattle.received.specs.Versions.{isOther}
 use Rattle.received.specs.Mending.{Change, Mend, Mends, Cannot, mendOf, words}
 
--- a refusal: 16 or 12
+-- a refusal: 17, 16 or 12
 abbrev pub unmended : ℕ → Mended
 unmended number = record { number = number; length = 0; changes = 0 }
 
@@ -33,11 +35,13 @@ changesBy Cannot out changes = changes
 changesBy (Mends lines list) out changes =
     cond (hasRooms lines list (length out) (length changes)) (words list ++ drop (length (words list)) changes) changes
 
-unfoldable pub mendedTo : List ℕ → List ℕ → List ℕ → Mended
-mendedTo text out changes = mendedBy (mendOf text) out changes
+-- ---- by the mending of an edition: 17 first
 
-unfoldable pub outAfter : List ℕ → List ℕ → List ℕ → List ℕ
-outAfter text out changes = outBy (mendOf text) out changes
+unfoldable pub mendedTo : Edition → List ℕ → List ℕ → List ℕ → Mended
+mendedTo e text out changes = cond (isOther e text) (unmended 17) (mendedBy (mendOf e text) out changes)
 
-unfoldable pub changesAfter : List ℕ → List ℕ → List ℕ → List ℕ
-changesAfter text out changes = changesBy (mendOf text) out changes
+unfoldable pub outAfter : Edition → List ℕ → List ℕ → List ℕ → List ℕ
+outAfter e text out changes = cond (isOther e text) out (outBy (mendOf e text) out changes)
+
+unfoldable pub changesAfter : Edition → List ℕ → List ℕ → List ℕ → List ℕ
+changesAfter e text out changes = cond (isOther e text) changes (changesBy (mendOf e text) out changes)

@@ -5,6 +5,7 @@ use mathlib.Core.Bool.{Bool, true, false, cond}
 use mathlib.Core.List.{List, [], _∷_, _++_, flatten, map}
 use lib.ListN.{length, set}
 use Rattle.calendar.specs.Text.{sameText}
+use Rattle.message.specs.declared.Edition.{Edition}
 use Rattle.message.specs.Message.{says, timeAfter}
 use Rattle.received.specs.Lines.{linesIn}
 use Rattle.received.specs.Slots.{Walked, Through, Stopped, walk}
@@ -68,8 +69,8 @@ unfoldable pub mendBy : Walked → Mend
 mendBy (Stopped lines) = Cannot
 mendBy (Through groups rest) = mendWith groups rest (keptOf 0 rest)
 
-unfoldable pub mendOf : List ℕ → Mend
-mendOf text = mendBy (walk slots (linesIn text))
+unfoldable pub mendOf : Edition → List ℕ → Mend
+mendOf e text = mendBy (walk (slots e) (linesIn text))
 
 -- a change is two words of the list
 abbrev pub words : List Change → List ℕ

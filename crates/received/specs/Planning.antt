@@ -7,6 +7,7 @@ use lib.Dec.{leb}
 use lib.ListN.{length, take, drop}
 use Rattle.integers.specs.Tests.{_and_}
 use Rattle.calendar.specs.Calendar.{mostSeconds}
+use Rattle.message.specs.declared.Edition.{Edition}
 use Rattle.message.specs.Message.{says, timeAfter}
 use Rattle.received.specs.declared.surveying.Step.{Step}
 use Rattle.received.specs.declared.surveying.Surveyed.{Surveyed}
@@ -71,11 +72,8 @@ module _ (text : List ℕ) (p : Plan) where
   unfoldable pub roomIn : ℕ → ℕ → Bool
   roomIn out changes = leb (length plannedText) out and leb (length (words plannedList)) changes
 
-  -- the plan is what mending gives
+  -- its places are in order, and its sizes are those of what is written
   pub record Planned : Type 0 where
-    pub lines : List (List ℕ)
-    pub gives : mendOf text ≡ Mends lines plannedList
-    pub text-is : flatten lines ≡ plannedText
     pub kept : p .bytes ≡ bytesOf (keptOf 0 dataLines)
     pub dropped : p .dropped ≡ length (dropsFrom (p .number) 0 dataLines)
     pub starts-early : p .first ≤ mostSeconds
@@ -85,3 +83,10 @@ module _ (text : List ℕ) (p : Plan) where
     pub within : p .from + p .bytes + p .dropped ≤ length text
     pub few : p .number ≤ p .from + 1
     pub early : p .line ≤ p .start + 1
+
+-- the plan is what mending gives
+pub record PlanOf (e : Edition) (text : List ℕ) (p : Plan) : Type 0 where
+  pub lines : List (List ℕ)
+  pub gives : mendOf e text ≡ Mends lines (plannedList text p)
+  pub text-is : flatten lines ≡ plannedText text p
+  pub planned : Planned text p

@@ -6,6 +6,8 @@ use lib.Dec.{ltb, eqb}
 use lib.ListN.{length, take, getD}
 use Rattle.integers.specs.Tests.{_and_}
 use Rattle.calendar.specs.Text.{sameText}
+use Rattle.message.specs.declared.Edition.{Edition}
+use Rattle.message.specs.declared.Edition.the-variants.{Two}
 use Rattle.message.specs.Message.{timeAfter}
 use Rattle.received.specs.Lines.{linesIn}
 use Rattle.received.specs.Slots.{Slot, any, formOf, restIn, Walked, Through, Stopped, walk}
@@ -20,11 +22,12 @@ pub data Read : Type 0 where
 
 -- ---- the groups by their slots, which are counted from 0
 
-abbrev pub slotAt : ℕ → Slot
-slotAt k = getD slots k (any commentForm)
+abbrev pub slotAt : Edition → ℕ → Slot
+slotAt e k = getD (slots e) k (any commentForm)
 
+-- the same in both editions
 abbrev pub frontAt : ℕ → List ℕ
-frontAt k = formOf (slotAt k) .front
+frontAt k = formOf (slotAt Two k) .front
 
 -- the line of a slot for one line, and what stands behind its front
 unfoldable pub lineAt : List (List (List ℕ)) → ℕ → List ℕ
@@ -38,13 +41,13 @@ unfoldable pub numberAt : List (List (List ℕ)) → ℕ → ℕ
 numberAt groups k = 1 + length (flatten (take k groups))
 
 abbrev pub startSlot : ℕ
-startSlot = 11
+startSlot = 13
 
 abbrev pub stopSlot : ℕ
-stopSlot = 12
+stopSlot = 14
 
 abbrev pub dataSlot : ℕ
-dataSlot = 15
+dataSlot = 17
 
 -- ---- reading
 
@@ -67,24 +70,26 @@ unfoldable pub readBy : Walked → Read
 readBy (Stopped lines) = Stops (length lines + 1)
 readBy (Through groups rest) = readBehind groups rest (pointsIn 0 rest)
 
-unfoldable pub readLines : List (List ℕ) → Read
-readLines lines = readBy (walk slots lines)
+unfoldable pub readLines : Edition → List (List ℕ) → Read
+readLines e lines = readBy (walk (slots e) lines)
 
-unfoldable pub readOf : List ℕ → Read
-readOf text = readLines (linesIn text)
+unfoldable pub readOf : Edition → List ℕ → Read
+readOf e text = readLines e (linesIn text)
 
 -- the message that was read
 unfoldable pub messageIn : List (List (List ℕ)) → List Point → Message
 messageIn groups points =
     record {
       onMessage = map (restIn (commentForm .front)) (getD groups 1 []);
-      created = restAt groups 2;
-      originator = restAt groups 3;
-      onObject = map (restIn (commentForm .front)) (getD groups 5 []);
-      object = restAt groups 6;
-      id = restAt groups 7;
-      center = restAt groups 8;
-      frame = restAt groups 9;
-      onData = map (restIn (commentForm .front)) (getD groups 14 []);
+      classification = map (restIn (frontAt 2)) (getD groups 2 []);
+      created = restAt groups 3;
+      originator = restAt groups 4;
+      identifier = map (restIn (frontAt 5)) (getD groups 5 []);
+      onObject = map (restIn (commentForm .front)) (getD groups 7 []);
+      object = restAt groups 8;
+      id = restAt groups 9;
+      center = restAt groups 10;
+      frame = restAt groups 11;
+      onData = map (restIn (commentForm .front)) (getD groups 16 []);
       points = points;
     }

@@ -1,4 +1,4 @@
--- A head of a message as a list of slots: for each slot one line, or any number of lines, of one form. Definitions only.
+-- A head of a message as a list of slots: for each slot one line, one line or none, or any number of lines, of one form. Definitions only.
 use Prim.Native.Nat.{ℕ, _+_, _-_}
 use mathlib.Core.Path.{_≡_}
 use mathlib.Core.Bool.{Bool, true, false}
@@ -31,10 +31,13 @@ isOf f line = hasFront (f .front) line and f .test (restIn (f .front) line)
 
 pub data Slot : Type 0 where
   one : Form → Slot
+  -- one line or none, and none where it may not stand
+  perhaps : Bool → Form → Slot
   any : Form → Slot
 
 abbrev pub formOf : Slot → Form
 formOf (one f) = f
+formOf (perhaps may f) = f
 formOf (any f) = f
 
 -- each line of a list is of a form
@@ -47,6 +50,9 @@ abbrev pub Fills : Slot → List (List ℕ) → Type 0
 Fills (one f) [] = ⊥
 Fills (one f) (line ∷ []) = isOf f line ≡ true
 Fills (one f) (line ∷ more ∷ lines) = ⊥
+Fills (perhaps may f) [] = Unit {0}
+Fills (perhaps may f) (line ∷ []) = (may ≡ true) × (isOf f line ≡ true)
+Fills (perhaps may f) (line ∷ more ∷ lines) = ⊥
 Fills (any f) lines = AllOf f lines
 
 -- a group for each slot
@@ -72,6 +78,17 @@ unfoldable pub behind : Form → List (List ℕ) → List (List ℕ)
 behind f [] = []
 behind f (line ∷ lines) = elim (isOf f line) as (λ _. List (List ℕ)) [ true ↦ behind f lines | false ↦ line ∷ lines ]
 
+-- the first line where it may stand and is of a form, and the lines behind it
+unfoldable pub firstOf : Bool → Form → List (List ℕ) → List (List ℕ)
+firstOf false f lines = []
+firstOf true f [] = []
+firstOf true f (line ∷ lines) = elim (isOf f line) as (λ _. List (List ℕ)) [ true ↦ line ∷ [] | false ↦ [] ]
+
+unfoldable pub pastFirst : Bool → Form → List (List ℕ) → List (List ℕ)
+pastFirst false f lines = lines
+pastFirst true f [] = []
+pastFirst true f (line ∷ lines) = elim (isOf f line) as (λ _. List (List ℕ)) [ true ↦ lines | false ↦ line ∷ lines ]
+
 -- a group, and then a walk over the lines behind it
 unfoldable pub after : List (List ℕ) → Walked → Walked
 after group (Through groups rest) = Through (group ∷ groups) rest
@@ -82,4 +99,5 @@ walk [] lines = Through [] lines
 walk (one f ∷ slots) [] = Stopped []
 walk (one f ∷ slots) (line ∷ lines) =
     elim (isOf f line) as (λ _. Walked) [ true ↦ after (line ∷ []) (walk slots lines) | false ↦ Stopped [] ]
+walk (perhaps may f ∷ slots) lines = after (firstOf may f lines) (walk slots (pastFirst may f lines))
 walk (any f ∷ slots) lines = after (leading f lines) (walk slots (behind f lines))

@@ -4,13 +4,15 @@ ghost use mathlib.Core.Bool.{true};
 ghost use Prim.Native.Nat.{_<_, _≤_};
 ghost use lib.ListN.{length};
 ghost use Rattle.calendar.specs.Text.{sameText};
+ghost use Rattle.message.specs.Editions.{versionOf};
 ghost use Rattle.message.specs.Form.{nameHolds};
 ghost use Rattle.message.specs.Refusals.{isTime};
 ghost use Rattle.received.specs.Slots.{hasFront, isOf, formOf};
-ghost use Rattle.received.specs.Profile.{form, printable, isRemark, commentForm};
+ghost use Rattle.received.specs.Profile.{form, saying, printable, isText, isRemark, commentForm};
 ghost use Rattle.received.specs.Reading.{slotAt};
-ghost use Rattle.received.specs.Finding.{isAny};
+ghost use Rattle.received.specs.Finding.{isPerhaps, isAny};
 use calendar::same;
+use message::Edition;
 use message::all_between;
 use message::is_time;
 use message::name_holds;
@@ -90,6 +92,46 @@ fn is_free(line: &[u8], front: &[u8]) -> bool
     is_printable(&line[from..end], from)
 }
 
+// Free text behind a front of so many characters.
+fn is_text(value: &[u8], front: usize) -> bool
+    requires { ⌜ front ≤ 254 ⌝ }
+    ensures { λ r. ⌜ r ≡ isText front (now (value .entry)) ⌝ }
+{
+    if value.len() < 1 {
+        return false;
+    }
+    if !is_printable(value, front) {
+        return false;
+    }
+    if value[0] == b' ' {
+        return false;
+    }
+    value[value.len() - 1] != b' '
+}
+
+// A front and free text.
+fn is_worded(line: &[u8], front: &[u8]) -> bool
+    requires { ⌜ length (now front) ≤ 254 ⌝ }
+    ensures { λ r. ⌜ r ≡ isOf (form (now (front .entry)) (isText (length (now (front .entry))))) (now (line .entry)) ⌝ }
+{
+    if !has_front(line, front) {
+        return false;
+    }
+    let from = front.len();
+    let end = line.len() - 1;
+    is_text(&line[from..end], from)
+}
+
+// The version line of an edition.
+fn is_version_line(line: &[u8], edition: Edition) -> bool
+    ensures { λ r. ⌜ r ≡ isOf (saying "CCSDS_OEM_VERS" (λ value. sameText value (versionOf edition))) (now (line .entry)) ⌝ }
+{
+    match edition {
+        Edition::Two => is_word(line, b"CCSDS_OEM_VERS = ", b"2.0"),
+        Edition::Three => is_word(line, b"CCSDS_OEM_VERS = ", b"3.0"),
+    }
+}
+
 // What stands behind COMMENT.
 fn is_remark(rest: &[u8]) -> bool
     ensures { λ r. ⌜ r ≡ isRemark (now (rest .entry)) ⌝ }
@@ -115,34 +157,48 @@ fn is_comment(line: &[u8]) -> bool
 
 // A slot for any number of lines.
 pub(crate) fn is_any(k: usize) -> bool
-    requires { ⌜ k < 15 ⌝ }
-    ensures { λ r. ⌜ r ≡ isAny (slotAt k) ⌝ }
+    requires { ⌜ k < 17 ⌝ }
+    ensures { λ r. ⌜ ((e : Edition) → r ≡ isAny (slotAt e k)) ⌝ }
 {
     match k {
         1 => true,
+        7 => true,
+        16 => true,
+        _ => false,
+    }
+}
+
+// A slot for one line or none.
+pub(crate) fn is_perhaps(k: usize) -> bool
+    requires { ⌜ k < 17 ⌝ }
+    ensures { λ r. ⌜ ((e : Edition) → r ≡ isPerhaps (slotAt e k)) ⌝ }
+{
+    match k {
+        2 => true,
         5 => true,
-        14 => true,
         _ => false,
     }
 }
 
 // A line is of the form of slot k.
-pub(crate) fn passes(k: usize, line: &[u8]) -> bool
-    ensures { λ r. ⌜ r ≡ isOf (formOf (slotAt k)) (now (line .entry)) ⌝ }
+pub(crate) fn passes(edition: Edition, k: usize, line: &[u8]) -> bool
+    ensures { λ r. ⌜ r ≡ isOf (formOf (slotAt edition k)) (now (line .entry)) ⌝ }
 {
     match k {
-        0 => is_word(line, b"CCSDS_OEM_VERS = ", b"2.0"),
-        2 => is_dated(line, b"CREATION_DATE = "),
-        3 => is_named(line, b"ORIGINATOR = ", 10),
-        4 => is_word(line, b"META_START", b""),
-        6 => is_named(line, b"OBJECT_NAME = ", 11),
-        7 => is_named(line, b"OBJECT_ID = ", 9),
-        8 => is_named(line, b"CENTER_NAME = ", 11),
-        9 => is_named(line, b"REF_FRAME = ", 9),
-        10 => is_word(line, b"TIME_SYSTEM = ", b"TAI"),
-        11 => is_free(line, b"START_TIME = "),
-        12 => is_free(line, b"STOP_TIME = "),
-        13 => is_word(line, b"META_STOP", b""),
+        0 => is_version_line(line, edition),
+        2 => is_worded(line, b"CLASSIFICATION = "),
+        3 => is_dated(line, b"CREATION_DATE = "),
+        4 => is_named(line, b"ORIGINATOR = ", 10),
+        5 => is_worded(line, b"MESSAGE_ID = "),
+        6 => is_word(line, b"META_START", b""),
+        8 => is_named(line, b"OBJECT_NAME = ", 11),
+        9 => is_named(line, b"OBJECT_ID = ", 9),
+        10 => is_named(line, b"CENTER_NAME = ", 11),
+        11 => is_named(line, b"REF_FRAME = ", 9),
+        12 => is_word(line, b"TIME_SYSTEM = ", b"TAI"),
+        13 => is_free(line, b"START_TIME = "),
+        14 => is_free(line, b"STOP_TIME = "),
+        15 => is_word(line, b"META_STOP", b""),
         _ => is_comment(line),
     }
 }

@@ -8,8 +8,10 @@ mod mending;
 mod planning;
 mod reader;
 mod surveying;
+mod versions;
 
 pub use mending::mend_message;
+pub use reader::read_either;
 pub use reader::read_message;
 
 // Where a value stands in the text.

@@ -5,6 +5,7 @@ ghost use Prim.Native.Nat.{_≤_, _+_};
 ghost use lib.ListN.{length, drop};
 ghost use Rattle.text.specs.Places.{Wrote};
 ghost use Rattle.received.specs.Lines.{linesIn};
+ghost use Rattle.received.specs.Versions.{editionIn};
 ghost use Rattle.received.specs.Data.{keptOf};
 ghost use Rattle.received.specs.Mending.{dropsFrom, words};
 ghost use Rattle.received.specs.MendAnswer.{unmended, mendedTo, outAfter, changesAfter};
@@ -14,6 +15,9 @@ use crate::planning::Plan;
 use crate::planning::has_rooms;
 use crate::planning::plan_of;
 use crate::surveying::look;
+use crate::versions::edition_of;
+use crate::versions::is_other;
+use message::Edition;
 use message::put_time_entry;
 use text::put_word;
 
@@ -126,12 +130,15 @@ fn refused(number: u8) -> Mended
     }
 }
 
-pub fn mend_message(text: &[u8], out: &mut [u8], changes: &mut [u64]) -> Mended
-    ensures { λ r. ⌜ r ≡ mendedTo (now (text .entry)) (now (out .entry)) (now (changes .entry)) ⌝ }
-    ensures { λ r. ⌜ now (out .exit) ≡ outAfter (now (text .entry)) (now (out .entry)) (now (changes .entry)) ⌝ }
-    ensures { λ r. ⌜ now (changes .exit) ≡ changesAfter (now (text .entry)) (now (out .entry)) (now (changes .entry)) ⌝ }
+fn mend_as(edition: Edition, text: &[u8], out: &mut [u8], changes: &mut [u64]) -> Mended
+    ensures { λ r. ⌜ r ≡ mendedTo edition (now (text .entry)) (now (out .entry)) (now (changes .entry)) ⌝ }
+    ensures { λ r. ⌜ now (out .exit) ≡ outAfter edition (now (text .entry)) (now (out .entry)) (now (changes .entry)) ⌝ }
+    ensures { λ r. ⌜ now (changes .exit) ≡ changesAfter edition (now (text .entry)) (now (out .entry)) (now (changes .entry)) ⌝ }
 {
-    let p = plan_of(text);
+    if is_other(text, edition) {
+        return refused(17);
+    }
+    let p = plan_of(text, edition);
     if !p.good {
         return refused(16);
     }
@@ -145,4 +152,13 @@ pub fn mend_message(text: &[u8], out: &mut [u8], changes: &mut [u64]) -> Mended
         length,
         changes: words / 2,
     }
+}
+
+// By the edition that the version line chooses.
+pub fn mend_message(text: &[u8], out: &mut [u8], changes: &mut [u64]) -> Mended
+    ensures { λ r. ⌜ r ≡ mendedTo (editionIn (now (text .entry))) (now (text .entry)) (now (out .entry)) (now (changes .entry)) ⌝ }
+    ensures { λ r. ⌜ now (out .exit) ≡ outAfter (editionIn (now (text .entry))) (now (text .entry)) (now (out .entry)) (now (changes .entry)) ⌝ }
+    ensures { λ r. ⌜ now (changes .exit) ≡ changesAfter (editionIn (now (text .entry))) (now (text .entry)) (now (out .entry)) (now (changes .entry)) ⌝ }
+{
+    mend_as(edition_of(text), text, out, changes)
 }

@@ -2,10 +2,11 @@
 ghost use mathlib.Core.Path.{_≡_};
 ghost use mathlib.Core.Bool.{true, false, cond};
 ghost use Rattle.received.specs.Mending.{Cannot, mendOf};
-ghost use Rattle.received.specs.Planning.{Planned, roomIn};
+ghost use Rattle.received.specs.Planning.{Planned, PlanOf, roomIn};
 use crate::heads::reach;
 use crate::judging::says_time;
 use crate::surveying::survey;
+use message::Edition;
 
 // Whether it can be mended; the places of START_TIME, META_STOP and the data, the numbers of START_TIME and of the first data line,
 // the times of the first and the last line kept and whether they are said, and how many bytes are kept and how many lines dropped.
@@ -43,10 +44,10 @@ fn no_plan() -> Plan
     }
 }
 
-pub(crate) fn plan_of(text: &[u8]) -> Plan
-    ensures { λ r. ⌜ (r .good ≡ false → mendOf (now (text .entry)) ≡ Cannot) × (r .good ≡ true → Planned (now (text .entry)) r) ⌝ }
+pub(crate) fn plan_of(text: &[u8], edition: Edition) -> Plan
+    ensures { λ r. ⌜ (r .good ≡ false → mendOf edition (now (text .entry)) ≡ Cannot) × (r .good ≡ true → PlanOf edition (now (text .entry)) r) ⌝ }
 {
-    let head = reach(text, 15);
+    let head = reach(text, edition, 17);
     if !head.good {
         return no_plan();
     }
@@ -54,10 +55,10 @@ pub(crate) fn plan_of(text: &[u8]) -> Plan
     if data.kept == 0 {
         return no_plan();
     }
-    let start = reach(text, 11);
-    let stop = reach(text, 13);
-    let starts = says_time(text, 11, 13, data.first);
-    let stops = says_time(text, 12, 12, data.last);
+    let start = reach(text, edition, 13);
+    let stop = reach(text, edition, 15);
+    let starts = says_time(text, edition, 13, 13, data.first);
+    let stops = says_time(text, edition, 14, 12, data.last);
     Plan {
         good: true,
         start: start.at,

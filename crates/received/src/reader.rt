@@ -6,6 +6,7 @@ ghost use Prim.Native.Nat.{_≤_, _+_, _*_};
 ghost use lib.ListN.{length, drop};
 ghost use lib.Seq.{paste};
 ghost use Rattle.received.specs.Lines.{linesIn};
+ghost use Rattle.received.specs.Versions.{editionIn};
 ghost use Rattle.received.specs.Data.{pointIn};
 ghost use Rattle.received.specs.Finding.{walkOver, isThrough, groupsOf};
 ghost use Rattle.received.specs.Answer.{hasRoom, secondsOf, valuesOf, refusedBy, received, answerTo, epochsAfter, valuesAfter};
@@ -15,6 +16,9 @@ use crate::data::read_datum;
 use crate::heads::place_of;
 use crate::judging::judge;
 use crate::lines::past_line;
+use crate::versions::edition_of;
+use crate::versions::is_other;
+use message::Edition;
 
 fn put_six(room: &mut [i64], at: usize, values: [i64; 6])
     requires { ⌜ at + 6 ≤ length (now room) ⌝ }
@@ -77,16 +81,16 @@ fn refused(number: u8, line: usize) -> Received
 }
 
 // Where the names and the time of creation stand.
-fn found(text: &[u8], count: usize) -> Received
-    requires { ⌜ isThrough (walkOver (now text)) ≡ true ⌝ }
-    ensures { λ r. ⌜ r ≡ received (groupsOf (walkOver (now (text .entry)))) count ⌝ }
+fn found(text: &[u8], edition: Edition, count: usize) -> Received
+    requires { ⌜ isThrough (walkOver edition (now text)) ≡ true ⌝ }
+    ensures { λ r. ⌜ r ≡ received (groupsOf (walkOver edition (now (text .entry)))) count ⌝ }
 {
-    let created = place_of(text, 2, 16);
-    let originator = place_of(text, 3, 13);
-    let object = place_of(text, 6, 14);
-    let id = place_of(text, 7, 12);
-    let center = place_of(text, 8, 14);
-    let frame = place_of(text, 9, 12);
+    let created = place_of(text, edition, 3, 16);
+    let originator = place_of(text, edition, 4, 13);
+    let object = place_of(text, edition, 8, 14);
+    let id = place_of(text, edition, 9, 12);
+    let center = place_of(text, edition, 10, 14);
+    let frame = place_of(text, edition, 11, 12);
     Received {
         number: 0,
         line: 0,
@@ -100,12 +104,15 @@ fn found(text: &[u8], count: usize) -> Received
     }
 }
 
-pub fn read_message(text: &[u8], epochs: &mut [u64], values: &mut [i64]) -> Received
-    ensures { λ r. ⌜ r ≡ answerTo (now (text .entry)) (now (epochs .entry)) (now (values .entry)) ⌝ }
-    ensures { λ r. ⌜ now (epochs .exit) ≡ epochsAfter (now (text .entry)) (now (epochs .entry)) (now (values .entry)) ⌝ }
-    ensures { λ r. ⌜ now (values .exit) ≡ valuesAfter (now (text .entry)) (now (epochs .entry)) (now (values .entry)) ⌝ }
+fn read_as(edition: Edition, text: &[u8], epochs: &mut [u64], values: &mut [i64]) -> Received
+    ensures { λ r. ⌜ r ≡ answerTo edition (now (text .entry)) (now (epochs .entry)) (now (values .entry)) ⌝ }
+    ensures { λ r. ⌜ now (epochs .exit) ≡ epochsAfter edition (now (text .entry)) (now (epochs .entry)) (now (values .entry)) ⌝ }
+    ensures { λ r. ⌜ now (values .exit) ≡ valuesAfter edition (now (text .entry)) (now (epochs .entry)) (now (values .entry)) ⌝ }
 {
-    let judged = judge(text);
+    if is_other(text, edition) {
+        return refused(17, 0);
+    }
+    let judged = judge(text, edition);
     if judged.line != 0 {
         return refused(15, judged.line);
     }
@@ -113,5 +120,23 @@ pub fn read_message(text: &[u8], epochs: &mut [u64], values: &mut [i64]) -> Rece
         return refused(12, 0);
     }
     keep(text, judged.at, epochs, values);
-    found(text, judged.count)
+    found(text, edition, judged.count)
+}
+
+// A message of version 2.0.
+pub fn read_message(text: &[u8], epochs: &mut [u64], values: &mut [i64]) -> Received
+    ensures { λ r. ⌜ r ≡ answerTo Edition.Two (now (text .entry)) (now (epochs .entry)) (now (values .entry)) ⌝ }
+    ensures { λ r. ⌜ now (epochs .exit) ≡ epochsAfter Edition.Two (now (text .entry)) (now (epochs .entry)) (now (values .entry)) ⌝ }
+    ensures { λ r. ⌜ now (values .exit) ≡ valuesAfter Edition.Two (now (text .entry)) (now (epochs .entry)) (now (values .entry)) ⌝ }
+{
+    read_as(Edition::Two, text, epochs, values)
+}
+
+// By the edition that the version line chooses.
+pub fn read_either(text: &[u8], epochs: &mut [u64], values: &mut [i64]) -> Received
+    ensures { λ r. ⌜ r ≡ answerTo (editionIn (now (text .entry))) (now (text .entry)) (now (epochs .entry)) (now (values .entry)) ⌝ }
+    ensures { λ r. ⌜ now (epochs .exit) ≡ epochsAfter (editionIn (now (text .entry))) (now (text .entry)) (now (epochs .entry)) (now (values .entry)) ⌝ }
+    ensures { λ r. ⌜ now (values .exit) ≡ valuesAfter (editionIn (now (text .entry))) (now (text .entry)) (now (epochs .entry)) (now (values .entry)) ⌝ }
+{
+    read_as(edition_of(text), text, epochs, values)
 }

@@ -9,9 +9,10 @@ use lib.ListN.{length, take, drop, getD, length-append}
 use lib.Seq.{drop-append-add, drop-append-seam, take-append-seam}
 use Rattle.integers.specs.Tests.{joined}
 use Rattle.calendar.specs.Back.{same-true}
+use Rattle.message.specs.declared.Edition.{Edition}
 use Rattle.received.specs.Lines.{newline, inFront, linesIn}
-use Rattle.received.specs.Slots.{Form, Slot, one, any, formOf, lineWith, restIn, hasFront, isOf, AllOf, Fills, FillAll}
-use Rattle.received.specs.Slots.{Walked, Through, Stopped, leading, behind, after, walk}
+use Rattle.received.specs.Slots.{Form, Slot, one, perhaps, any, formOf, lineWith, restIn, hasFront, isOf, AllOf, Fills, FillAll}
+use Rattle.received.specs.Slots.{Walked, Through, Stopped, leading, behind, firstOf, pastFirst, after, walk}
 use Rattle.received.specs.Profile.{commentForm, slots}
 use Rattle.received.specs.Reading.{slotAt, frontAt, lineAt, restAt}
 use Rattle.received.specs.Answer.{placeAt}
@@ -60,6 +61,18 @@ leads f (line ∷ lines) = by (isOf f line) (leads f lines)
     by true e = ap (λ ls. line ∷ ls) e
     by false e = refl
 
+firsts : (may : Bool) (f : Form) (lines : List (List ℕ)) → firstOf may f lines ++ pastFirst may f lines ≡ lines
+unfolding firstOf pastFirst
+firsts false f lines = refl
+firsts true f [] = refl
+firsts true f (line ∷ lines) = by (isOf f line)
+  where
+    by : (t : Bool)
+        → elim t as (λ _. List (List ℕ)) [ true ↦ line ∷ [] | false ↦ [] ] ++ elim t as (λ _. List (List ℕ)) [ true ↦ lines | false ↦ line ∷ lines ]
+        ≡ line ∷ lines
+    by true = refl
+    by false = refl
+
 pub splits : (slots : List Slot) (lines : List (List ℕ)) → Splits (walk slots lines) lines
 unfolding walk flatten
 splits [] lines = refl
@@ -70,6 +83,9 @@ splits (one f ∷ slots) (line ∷ lines) = by (isOf f line) (splits slots lines
         → Splits (elim t as (λ _. Walked) [ true ↦ after (line ∷ []) (walk slots lines) | false ↦ Stopped [] ]) (line ∷ lines)
     by true h = after-splits (line ∷ []) (walk slots lines) lines h
     by false h = tt
+splits (perhaps may f ∷ slots) lines =
+    subst (Splits (after (firstOf may f lines) (walk slots (pastFirst may f lines)))) (firsts may f lines)
+    (after-splits (firstOf may f lines) (walk slots (pastFirst may f lines)) (pastFirst may f lines) (splits slots (pastFirst may f lines)))
 splits (any f ∷ slots) lines =
     subst (Splits (after (leading f lines) (walk slots (behind f lines)))) (leads f lines)
     (after-splits (leading f lines) (walk slots (behind f lines)) (behind f lines) (splits slots (behind f lines)))
@@ -95,6 +111,16 @@ leads-of f (line ∷ lines) = by (isOf f line) refl (leads-of f lines)
     by true e h = (e, h)
     by false e h = tt
 
+firsts-of : (may : Bool) (f : Form) (lines : List (List ℕ)) → Fills (perhaps may f) (firstOf may f lines)
+unfolding firstOf
+firsts-of false f lines = tt
+firsts-of true f [] = tt
+firsts-of true f (line ∷ lines) = by (isOf f line) refl
+  where
+    by : (t : Bool) → isOf f line ≡ t → Fills (perhaps true f) (elim t as (λ _. List (List ℕ)) [ true ↦ line ∷ [] | false ↦ [] ])
+    by true e = (refl, e)
+    by false e = tt
+
 pub filled : (slots : List Slot) (lines : List (List ℕ)) → Filled slots (walk slots lines)
 unfolding walk
 filled [] lines = tt
@@ -105,6 +131,8 @@ filled (one f ∷ slots) (line ∷ lines) = by (isOf f line) refl (filled slots 
         → Filled (one f ∷ slots) (elim t as (λ _. Walked) [ true ↦ after (line ∷ []) (walk slots lines) | false ↦ Stopped [] ])
     by true e h = after-filled (one f) slots (line ∷ []) (walk slots lines) e h
     by false e h = tt
+filled (perhaps may f ∷ slots) lines =
+    after-filled (perhaps may f) slots (firstOf may f lines) (walk slots (pastFirst may f lines)) (firsts-of may f lines) (filled slots (pastFirst may f lines))
 filled (any f ∷ slots) lines =
     after-filled (any f) slots (leading f lines) (walk slots (behind f lines)) (leads-of f lines) (filled slots (behind f lines))
 
@@ -167,8 +195,8 @@ passes-test : (f : Form) (line : List ℕ) → isOf f line ≡ true → f .test 
 unfolding isOf
 passes-test f line h = let (_, q) = simp joined at h in q
 
-module _ (text : List ℕ) (groups : List (List (List ℕ))) (rest : List (List ℕ))
-    (s : flatten groups ++ rest ≡ linesIn text) (h : FillAll slots groups) where
+module _ (e : Edition) (text : List ℕ) (groups : List (List (List ℕ))) (rest : List (List ℕ))
+    (s : flatten groups ++ rest ≡ linesIn text) (h : FillAll (slots e) groups) where
   -- the text, taken apart at a group
   at-group : (k : ℕ) → k < length groups
       → text ≡ before groups k ++ (flatten (getD groups k []) ++ (flatten (flatten (drop (suc k) groups)) ++ flatten rest))
@@ -184,17 +212,16 @@ module _ (text : List ℕ) (groups : List (List (List ℕ))) (rest : List (List 
       ∙ append-assoc (flatten b) (flatten g ++ flatten a) (flatten rest)
       ∙ ap (λ t. flatten b ++ t) (append-assoc (flatten g) (flatten a) (flatten rest))
 
-  pub standing : (k : ℕ) (f : Form) → k < 15 → slotAt k ≡ one f → ((v : List ℕ) → f .test v ≡ true → length v ≤ 254) → Standing text groups k
+  pub standing : (k : ℕ) (f : Form) → k < 17 → slotAt e k ≡ one f → f .front ≡ frontAt k → ((v : List ℕ) → f .test v ≡ true → length v ≤ 254) → Standing text groups k
   unfolding lineAt restAt flatten
-  standing k f l e short =
-      let (g, i) = one-line f (getD groups k []) (fill-at slots groups k f h l e) in
+  standing k f l q front short =
+      let (g, i) = one-line f (getD groups k []) (fill-at (slots e) groups k f h l q) in
       let line = getD (getD groups k []) 0 [] in
-      let front : f .front ≡ frontAt k = ap (λ t. formOf t .front) (sym e) in
       let behind = flatten (flatten (drop (suc k) groups)) ++ flatten rest in
       let lines : flatten (getD groups k []) ≡ line = ap flatten g ∙ append-nil line in
       record {
         more = newline ∷ behind;
-        is = at-group k (omega (arith, as-many slots groups h))
+        is = at-group k (omega (arith, as-many (slots e) groups h))
             ∙ ap (λ t. before groups k ++ (t ++ behind)) lines
             ∙ ap (λ t. before groups k ++ t) (line-behind f line behind i)
             ∙ ap (λ t. before groups k ++ (t ++ (restIn t line ++ (newline ∷ behind)))) front;

@@ -10,6 +10,7 @@ use borrow.Author.Tests.{leb-true}
 use Rattle.integers.specs.Tests.{joined}
 use Rattle.text.specs.Numbers.{ascii}
 use Rattle.calendar.specs.Text.{sameText}
+use Rattle.message.specs.declared.Edition.{Edition}
 use Rattle.message.specs.Message.{timeAfter}
 use Rattle.message.specs.Form.{nameHolds, fits}
 use Rattle.message.specs.Refusals.{isTime}
@@ -23,12 +24,12 @@ use Rattle.reports.specs.DataLines.{time-long, few-points}
 use Rattle.reports.specs.Heads.{lines-text, flatten-append, Splits, splits, Filled, filled, Standing, standing}
 
 pub record Found (text : List ℕ) (groups : List (List (List ℕ))) : Type 0 where
-  pub created : Standing text groups 2
-  pub originator : Standing text groups 3
-  pub object : Standing text groups 6
-  pub id : Standing text groups 7
-  pub center : Standing text groups 8
-  pub frame : Standing text groups 9
+  pub created : Standing text groups 3
+  pub originator : Standing text groups 4
+  pub object : Standing text groups 8
+  pub id : Standing text groups 9
+  pub center : Standing text groups 10
+  pub frame : Standing text groups 11
 
 -- and there is no point for which the text is too short
 pub record OfMessage (text : List ℕ) (groups : List (List (List ℕ))) (points : List Point) : Type 0 where
@@ -49,16 +50,16 @@ name-short keyword name h = let (a, (b, c)) = simp joined at h in omega (arith, 
 time-short : (s : List ℕ) → isTime s ≡ true → length s ≤ 254
 time-short s h = omega (arith, time-long s h)
 
-found : (text : List ℕ) (groups : List (List (List ℕ))) (rest : List (List ℕ)) → Splits (Through groups rest) (linesIn text) → FillAll slots groups
+found : (e : Edition) (text : List ℕ) (groups : List (List (List ℕ))) (rest : List (List ℕ)) → Splits (Through groups rest) (linesIn text) → FillAll (slots e) groups
     → Found text groups
-found text groups rest s h =
+found e text groups rest s h =
     record {
-      created = standing text groups rest s h 2 (saying "CREATION_DATE" isTime) (omega arith) refl time-short;
-      originator = standing text groups rest s h 3 (saying "ORIGINATOR" (fits "ORIGINATOR")) (omega arith) refl (name-short (length (ascii "ORIGINATOR")));
-      object = standing text groups rest s h 6 (saying "OBJECT_NAME" (fits "OBJECT_NAME")) (omega arith) refl (name-short (length (ascii "OBJECT_NAME")));
-      id = standing text groups rest s h 7 (saying "OBJECT_ID" (fits "OBJECT_ID")) (omega arith) refl (name-short (length (ascii "OBJECT_ID")));
-      center = standing text groups rest s h 8 (saying "CENTER_NAME" (fits "CENTER_NAME")) (omega arith) refl (name-short (length (ascii "CENTER_NAME")));
-      frame = standing text groups rest s h 9 (saying "REF_FRAME" (fits "REF_FRAME")) (omega arith) refl (name-short (length (ascii "REF_FRAME")));
+      created = standing e text groups rest s h 3 (saying "CREATION_DATE" isTime) (omega arith) refl refl time-short;
+      originator = standing e text groups rest s h 4 (saying "ORIGINATOR" (fits "ORIGINATOR")) (omega arith) refl refl (name-short (length (ascii "ORIGINATOR")));
+      object = standing e text groups rest s h 8 (saying "OBJECT_NAME" (fits "OBJECT_NAME")) (omega arith) refl refl (name-short (length (ascii "OBJECT_NAME")));
+      id = standing e text groups rest s h 9 (saying "OBJECT_ID" (fits "OBJECT_ID")) (omega arith) refl refl (name-short (length (ascii "OBJECT_ID")));
+      center = standing e text groups rest s h 10 (saying "CENTER_NAME" (fits "CENTER_NAME")) (omega arith) refl refl (name-short (length (ascii "CENTER_NAME")));
+      frame = standing e text groups rest s h 11 (saying "REF_FRAME" (fits "REF_FRAME")) (omega arith) refl refl (name-short (length (ascii "REF_FRAME")));
     }
 
 -- ---- points have six values
@@ -96,10 +97,10 @@ unfolding unless
 unless-known text true line r k = k
 unless-known text false line r k = tt
 
-known-by : (text : List ℕ) (w : Walked) → Splits w (linesIn text) → Filled slots w → Known text (readBy w)
+known-by : (e : Edition) (text : List ℕ) (w : Walked) → Splits w (linesIn text) → Filled (slots e) w → Known text (readBy w)
 unfolding readBy readBehind
-known-by text (Stopped lines) s h = tt
-known-by text (Through groups rest) s h =
+known-by e text (Stopped lines) s h = tt
+known-by e text (Through groups rest) s h =
     let points = pointsIn 0 rest in
     let start = sameText (restAt groups startSlot) (timeAfter (firstSeconds points)) in
     let stop = sameText (restAt groups stopSlot) (timeAfter (lastSeconds points)) in
@@ -107,8 +108,8 @@ known-by text (Through groups rest) s h =
     unless-known text (allRead points rest) (numberAt groups dataSlot + length points) (unless start (numberAt groups startSlot) last)
     (unless-known text start (numberAt groups startSlot) last
     (unless-known text stop (numberAt groups stopSlot) (Reads groups points)
-    (record { found = found text groups rest s h; six = six-in 0 rest; few = few text groups rest s })))
+    (record { found = found e text groups rest s h; six = six-in 0 rest; few = few text groups rest s })))
 
-pub known : (text : List ℕ) → Known text (readOf text)
+pub known : (e : Edition) (text : List ℕ) → Known text (readOf e text)
 unfolding readOf readLines
-known text = known-by text (walk slots (linesIn text)) (splits slots (linesIn text)) (filled slots (linesIn text))
+known e text = known-by e text (walk (slots e) (linesIn text)) (splits (slots e) (linesIn text)) (filled (slots e) (linesIn text))

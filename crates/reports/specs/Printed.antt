@@ -8,12 +8,14 @@ use lib.IntN.{ℤ}
 use lib.ListN.{length, drop, length-append}
 use borrow.Author.Tests.{leb-true, le-leb}
 use Rattle.integers.specs.Tests.{joined}
+use Rattle.message.specs.declared.Edition.{Edition}
+use Rattle.received.specs.Versions.{isOther, editionIn}
 use Rattle.received.specs.declared.Received.{Received}
 use Rattle.received.specs.Data.{Point}
 use Rattle.received.specs.Reading.{restAt, Read, Reads, Stops, readOf}
 use Rattle.received.specs.Answer.{nowhere, refusedBy, placeAt, received, hasRoom, secondsOf, valuesOf, answerBy, epochsBy, valuesBy, answerTo, epochsAfter, valuesAfter}
 use Rattle.reports.specs.Reports.{Within, AllWithin, partOf, senderLines, objectLines, senderIn, objectIn, namesIn, pointsText}
-use Rattle.reports.specs.Reports.{reportOf, reportFor, reportBy, readText}
+use Rattle.reports.specs.Reports.{refusedLine, reportOf, reportFor, reportBy, readAs, readText}
 use Rattle.reports.specs.Rooms.{Six, points-back}
 use Rattle.reports.specs.Lengths.{AllShort, report-short}
 use Rattle.reports.specs.Heads.{value-at, value-within, value-short}
@@ -94,23 +96,29 @@ printable-by text (Stops line) epochs values k = refused-printable text 15 line 
 printable-by text (Reads groups points) epochs values k =
     read-printable text groups points k epochs values (hasRoom (length points) (length epochs) (length values))
 
-pub printable : (text epochs : List ℕ) (values : List ℤ)
-    → Printable text (answerTo text epochs values) (epochsAfter text epochs values) (valuesAfter text epochs values)
+pub printable : (e : Edition) (text epochs : List ℕ) (values : List ℤ)
+    → Printable text (answerTo e text epochs values) (epochsAfter e text epochs values) (valuesAfter e text epochs values)
 unfolding answerTo epochsAfter valuesAfter
-printable text epochs values = printable-by text (readOf text) epochs values (known text)
+printable e text epochs values = by (isOther e text)
+  where
+    by : (t : Bool)
+        → Printable text (cond t (refusedBy 17 0) (answerBy (readOf e text) epochs values)) (cond t epochs (epochsBy (readOf e text) epochs values))
+        (cond t values (valuesBy (readOf e text) epochs values))
+    by true = refused-printable text 17 0 epochs values
+    by false = printable-by text (readOf e text) epochs values (known e text)
 
 -- what a reader answered that meets its contract
-module _ (text epochs : List ℕ) (values : List ℤ) {r : Received} {es : List ℕ} {vs : List ℤ}
-    (e : r ≡ answerTo text epochs values) (a : es ≡ epochsAfter text epochs values) (b : vs ≡ valuesAfter text epochs values) where
+module _ (e : Edition) (text epochs : List ℕ) (values : List ℤ) {r : Received} {es : List ℕ} {vs : List ℤ}
+    (q : r ≡ answerTo e text epochs values) (a : es ≡ epochsAfter e text epochs values) (b : vs ≡ valuesAfter e text epochs values) where
   pub ready : Printable text r es vs
   ready =
-      subst (λ x. Printable text x es vs) (sym e)
-      (subst (λ x. Printable text (answerTo text epochs values) x vs) (sym a)
-      (subst (λ x. Printable text (answerTo text epochs values) (epochsAfter text epochs values) x) (sym b) (printable text epochs values)))
+      subst (λ x. Printable text x es vs) (sym q)
+      (subst (λ x. Printable text (answerTo e text epochs values) x vs) (sym a)
+      (subst (λ x. Printable text (answerTo e text epochs values) (epochsAfter e text epochs values) x) (sym b) (printable e text epochs values)))
 
-  pub reported : reportOf text r es vs ≡ reportFor text epochs values
+  pub reported : reportOf text r es vs ≡ reportFor e text epochs values
   unfolding reportFor
-  reported = λ i. reportOf text (e i) (a i) (b i)
+  reported = λ i. reportOf text (q i) (a i) (b i)
 
 -- ---- as many points as the rooms can hold, at most
 
@@ -126,18 +134,22 @@ count-by (Reads groups points) epochs values =
     let n = length points in
     count-held groups n (length epochs) (length values) (hasRoom n (length epochs) (length values)) refl
 
-count-within : (text epochs : List ℕ) (values : List ℤ) → answerTo text epochs values .count ≤ length epochs
+count-within : (e : Edition) (text epochs : List ℕ) (values : List ℤ) → answerTo e text epochs values .count ≤ length epochs
 unfolding answerTo
-count-within text epochs values = count-by (readOf text) epochs values
+count-within e text epochs values = by (isOther e text)
+  where
+    by : (t : Bool) → cond t (refusedBy 17 0) (answerBy (readOf e text) epochs values) .count ≤ length epochs
+    by true = omega arith
+    by false = count-by (readOf e text) epochs values
 
-pub report-fits : (text epochs : List ℕ) (values : List ℤ) → length (reportFor text epochs values) ≤ 1599 + 153 * length epochs
+pub report-fits : (e : Edition) (text epochs : List ℕ) (values : List ℤ) → length (reportFor e text epochs values) ≤ 1599 + 153 * length epochs
 unfolding reportFor
-report-fits text epochs values =
-    let p = printable text epochs values in
+report-fits e text epochs values =
+    let p = printable e text epochs values in
     omega (
       arith,
-      report-short text (answerTo text epochs values) (p .short) (epochsAfter text epochs values) (valuesAfter text epochs values),
-      count-within text epochs values,
+      report-short text (answerTo e text epochs values) (p .short) (epochsAfter e text epochs values) (valuesAfter e text epochs values),
+      count-within e text epochs values,
     )
 
 -- ---- with room for all, it is what the definition of reading gives
@@ -149,19 +161,19 @@ RoomFor (Reads groups points) epochs values = hasRoom (length points) epochs val
 
 module _ (text : List ℕ) (groups : List (List (List ℕ))) (points : List Point) (k : Known text (Reads groups points)) (epochs : List ℕ) (values : List ℤ) where
   names-are : flatten (namesIn text (received groups (length points)))
-      ≡ flatten (senderLines (restAt groups 2) (restAt groups 3))
-      ++ flatten (objectLines (restAt groups 6) (restAt groups 7) (restAt groups 8) (restAt groups 9))
+      ≡ flatten (senderLines (restAt groups 3) (restAt groups 4))
+      ++ flatten (objectLines (restAt groups 8) (restAt groups 9) (restAt groups 10) (restAt groups 11))
   unfolding namesIn senderIn objectIn received flatten
   names-are =
       let f = k .found in
-      let sender : flatten (senderLines (partOf text (placeAt groups 2)) (partOf text (placeAt groups 3))) ≡ flatten (senderLines (restAt groups 2) (restAt groups 3)) =
+      let sender : flatten (senderLines (partOf text (placeAt groups 3)) (partOf text (placeAt groups 4))) ≡ flatten (senderLines (restAt groups 3) (restAt groups 4)) =
       λ i. flatten (senderLines (value-at (f .created) i) (value-at (f .originator) i)) in
-      let object : flatten (objectLines (partOf text (placeAt groups 6)) (partOf text (placeAt groups 7)) (partOf text (placeAt groups 8)) (partOf text (placeAt groups 9)))
-      ≡ flatten (objectLines (restAt groups 6) (restAt groups 7) (restAt groups 8) (restAt groups 9)) =
+      let object : flatten (objectLines (partOf text (placeAt groups 8)) (partOf text (placeAt groups 9)) (partOf text (placeAt groups 10)) (partOf text (placeAt groups 11)))
+      ≡ flatten (objectLines (restAt groups 8) (restAt groups 9) (restAt groups 10) (restAt groups 11)) =
       λ i. flatten (objectLines (value-at (f .object) i) (value-at (f .id) i) (value-at (f .center) i) (value-at (f .frame) i)) in
       ap₂ (λ s o. s ++ (o ++ [])) sender object
-      ∙ ap (λ o. flatten (senderLines (restAt groups 2) (restAt groups 3)) ++ o)
-      (append-nil (flatten (objectLines (restAt groups 6) (restAt groups 7) (restAt groups 8) (restAt groups 9))))
+      ∙ ap (λ o. flatten (senderLines (restAt groups 3) (restAt groups 4)) ++ o)
+      (append-nil (flatten (objectLines (restAt groups 8) (restAt groups 9) (restAt groups 10) (restAt groups 11))))
 
   read-as : (t : Bool) → t ≡ true
       → reportOf text (cond t (received groups (length points)) (refusedBy 12 0))
@@ -170,8 +182,8 @@ module _ (text : List ℕ) (groups : List (List (List ℕ))) (points : List Poin
       ≡ reportBy (Reads groups points)
   unfolding reportOf reportBy received
   read-as true e =
-      let sender = flatten (senderLines (restAt groups 2) (restAt groups 3)) in
-      let object = flatten (objectLines (restAt groups 6) (restAt groups 7) (restAt groups 8) (restAt groups 9)) in
+      let sender = flatten (senderLines (restAt groups 3) (restAt groups 4)) in
+      let object = flatten (objectLines (restAt groups 8) (restAt groups 9) (restAt groups 10) (restAt groups 11)) in
       ap₂ (λ names ps. names ++ pointsText ps) names-are (points-back points (drop (length points) epochs) (drop (6 * length points) values) (k .six))
       ∙ append-assoc sender object (pointsText points)
   read-as false e = absurd (let z : _≡_ {A = ℕ} 0 1 = cc in omega arith)
@@ -183,9 +195,16 @@ as-read-by text (Stops line) epochs values k room = refl
 as-read-by text (Reads groups points) epochs values k room =
     read-as text groups points k epochs values (hasRoom (length points) (length epochs) (length values)) room
 
-pub as-read : (text epochs : List ℕ) (values : List ℤ) → RoomFor (readOf text) (length epochs) (length values) → reportFor text epochs values ≡ readText text
-unfolding reportFor answerTo epochsAfter valuesAfter readText
-as-read text epochs values room = as-read-by text (readOf text) epochs values (known text) room
+pub as-read : (e : Edition) (text epochs : List ℕ) (values : List ℤ) → RoomFor (readOf e text) (length epochs) (length values) → reportFor e text epochs values ≡ readAs e text
+unfolding reportFor reportOf answerTo epochsAfter valuesAfter readAs
+as-read e text epochs values room = by (isOther e text)
+  where
+    by : (t : Bool)
+        → reportOf text (cond t (refusedBy 17 0) (answerBy (readOf e text) epochs values)) (cond t epochs (epochsBy (readOf e text) epochs values))
+        (cond t values (valuesBy (readOf e text) epochs values))
+        ≡ cond t (flatten (refusedLine 17)) (reportBy (readOf e text))
+    by true = refl
+    by false = as-read-by text (readOf e text) epochs values (known e text) room
 
 -- ---- a text of at most 1,100,000 characters, with rooms for 13,253 points
 
@@ -196,10 +215,12 @@ enough-by text (Reads groups points) k h =
     let n = length points in
     simp joined (le-leb n 13253 (omega (arith, k .few, h)), le-leb (6 * n) 79518 (omega (arith, k .few, h)))
 
-pub always-enough : (text : List ℕ) → length text ≤ 1100000 → RoomFor (readOf text) 13253 79518
-always-enough text h = enough-by text (readOf text) (known text) h
+pub always-enough : (e : Edition) (text : List ℕ) → length text ≤ 1100000 → RoomFor (readOf e text) 13253 79518
+always-enough e text h = enough-by text (readOf e text) (known e text) h
 
 pub as-printed : (text epochs : List ℕ) (values : List ℤ) → length text ≤ 1100000 → length epochs ≡ 13253 → length values ≡ 79518
-    → reportFor text epochs values ≡ readText text
-as-printed text epochs values h e v =
-    as-read text epochs values (subst (λ n. RoomFor (readOf text) (length epochs) n) (sym v) (subst (λ n. RoomFor (readOf text) n 79518) (sym e) (always-enough text h)))
+    → reportFor (editionIn text) text epochs values ≡ readText text
+unfolding readText
+as-printed text epochs values h l v =
+    let e = editionIn text in
+    as-read e text epochs values (subst (λ n. RoomFor (readOf e text) (length epochs) n) (sym v) (subst (λ n. RoomFor (readOf e text) n 79518) (sym l) (always-enough e text h)))

@@ -7,8 +7,10 @@ use lib.Dec.{eqb}
 use lib.IntN.{ℤ}
 use lib.ListN.{length, take, drop}
 use Rattle.text.specs.Numbers.{ascii, decimal, numbers}
+use Rattle.message.specs.declared.Edition.{Edition}
 use Rattle.received.specs.declared.Place.{Place}
 use Rattle.received.specs.declared.Received.{Received}
+use Rattle.received.specs.Versions.{isOther, editionIn}
 use Rattle.received.specs.Data.{Point}
 use Rattle.received.specs.Reading.{restAt, Read, Reads, Stops, readOf}
 use Rattle.received.specs.Answer.{answerTo, epochsAfter, valuesAfter}
@@ -112,19 +114,24 @@ reportOf text r epochs values =
     (flatten (refusedLine (r .number))))
 
 -- for a text, with two rooms for what is read
-unfoldable pub reportFor : List ℕ → List ℕ → List ℤ → List ℕ
-reportFor text epochs values = reportOf text (answerTo text epochs values) (epochsAfter text epochs values) (valuesAfter text epochs values)
+unfoldable pub reportFor : Edition → List ℕ → List ℕ → List ℤ → List ℕ
+reportFor e text epochs values = reportOf text (answerTo e text epochs values) (epochsAfter e text epochs values) (valuesAfter e text epochs values)
 
 -- by the definition of what is read alone
 unfoldable pub reportBy : Read → List ℕ
 reportBy (Stops line) = flatten (stoppedLine line)
 reportBy (Reads groups points) =
-    flatten (senderLines (restAt groups 2) (restAt groups 3))
-    ++ (flatten (objectLines (restAt groups 6) (restAt groups 7) (restAt groups 8) (restAt groups 9))
+    flatten (senderLines (restAt groups 3) (restAt groups 4))
+    ++ (flatten (objectLines (restAt groups 8) (restAt groups 9) (restAt groups 10) (restAt groups 11))
     ++ pointsText points)
 
+-- of an edition: 17 first
+unfoldable pub readAs : Edition → List ℕ → List ℕ
+readAs e text = cond (isOther e text) (flatten (refusedLine 17)) (reportBy (readOf e text))
+
+-- of the edition that the version line chooses
 unfoldable pub readText : List ℕ → List ℕ
-readText text = reportBy (readOf text)
+readText text = readAs (editionIn text) text
 
 -- ---- what `oem mend` lists
 
@@ -137,5 +144,5 @@ unfoldable pub listBy : Mend → List ℕ
 listBy Cannot = flatten (refusedLine 16)
 listBy (Mends lines changes) = changesText changes
 
-unfoldable pub mendList : List ℕ → List ℕ
-mendList text = listBy (mendOf text)
+unfoldable pub mendList : Edition → List ℕ → List ℕ
+mendList e text = cond (isOther e text) (flatten (refusedLine 17)) (listBy (mendOf e text))

@@ -33,12 +33,12 @@ add-last c =
 put-header-requires : tie.Need-put-header-requires
 put-header-requires c κs =
     let r = asked (c .before .before .before .before .before .before .before .before .before .before .before) in
-    has-room (omega (arith, parts-long r, c .before .before .before .before .before .before .before .before .before .before .before .pre .1 .1))
+    has-room (omega (arith, parts-long (c .before .before .before .before .before .before .before .before .before .before .before .args .edition) r, c .before .before .before .before .before .before .before .before .before .before .before .pre .1 .1))
 
 put-names-requires : tie.Need-put-names-requires
 put-names-requires c κs =
     let r = asked (c .before .before .before .before .before .before .before .before .before .before .before .before .before .before .before) in
-    has-room (omega (arith, parts-long r, c .before .before .before .before .before .before .before .before .before .before .before .before .before .before .before .pre .1 .1, c .before .before .before .put-header .ensures .ends, c .before .before .before .put-header .ensures .long))
+    has-room (omega (arith, parts-long (c .before .before .before .before .before .before .before .before .before .before .before .before .before .before .before .args .edition) r, c .before .before .before .before .before .before .before .before .before .before .before .before .before .before .before .pre .1 .1, c .before .before .before .put-header .ensures .ends, c .before .before .before .put-header .ensures .long))
 
 put-times-requires : tie.Need-put-times-requires
 put-times-requires c κs =
@@ -49,7 +49,7 @@ put-times-requires c κs =
     let m = ap (λ x. length (flatten x)) (times-are r e (c .before .before .before .before .before .before .before .before .before .last-point .ensures)) in
     let h = c .before .before .before .before .before .before .before .put-header .ensures in
     let n = c .before .before .before .put-names .ensures in
-    ((c .before .before .before .before .before .before .before .before .before .before .seconds-in .ensures .1, omega (arith, e, l, t)), has-room (omega (arith, parts-long r, c .before .before .before .before .before .before .before .before .before .before .before .before .before .before .before .before .before .before .before .pre .1 .1, m, h .ends, h .long, n .ends, n .long)))
+    ((c .before .before .before .before .before .before .before .before .before .before .seconds-in .ensures .1, omega (arith, e, l, t)), has-room (omega (arith, parts-long (c .before .before .before .before .before .before .before .before .before .before .before .before .before .before .before .before .before .before .before .args .edition) r, c .before .before .before .before .before .before .before .before .before .before .before .before .before .before .before .before .before .before .before .pre .1 .1, m, h .ends, h .long, n .ends, n .long)))
 
 put-lines-requires : tie.Need-put-lines-requires
 unfolding countOf
@@ -66,7 +66,7 @@ put-lines-requires c κs =
       rw e (last-time r w),
       (
         (w .settings, all-hold (a .tick) (a .step) (a .points .now) (c .before .before .before .before .before .before .before .before .before .before .before .before .before .before .before .before .before .before .before .before .before .before .before .pre .1 .0)),
-        omega (arith, parts-long r, c .before .before .before .before .before .before .before .before .before .before .before .before .before .before .before .before .before .before .before .before .before .before .before .pre .1 .1, m, f, h .ends, h .long, n .ends, n .long, t .ends, t .long),
+        omega (arith, parts-long (c .before .before .before .before .before .before .before .before .before .before .before .before .before .before .before .before .before .before .before .before .before .before .before .args .edition) r, c .before .before .before .before .before .before .before .before .before .before .before .before .before .before .before .before .before .before .before .before .before .before .before .pre .1 .1, m, f, h .ends, h .long, n .ends, n .long, t .ends, t .long),
       ),
     )
 
@@ -77,7 +77,7 @@ returns c =
     let e = c .before .before .before .before .before .before .before .before .before .before .before .before .before .before .before .before .before .seconds-in .ensures .0 in
     let t = retold (ap flatten (times-are r e (c .before .before .before .before .before .before .before .before .before .before .before .before .before .before .before .before .last-point .ensures))) (c .before .before .before .before .before .before .put-times .ensures) in
     let p = retold (ap (λ s. texts (lineFrom (a .tick) (a .step) (a .points .now) s) (countOf (a .points .now))) e) (c .before .before .put-lines .ensures) in
-    rw (in-parts r) (then (c .before .before .before .before .before .before .before .before .before .before .before .before .before .before .put-header .ensures) (then (c .before .before .before .before .before .before .before .before .before .before .put-names .ensures) (then t p)))
+    rw (in-parts (c .before .before .before .before .before .before .before .before .before .before .before .before .before .before .before .before .before .before .before .before .before .before .before .before .before .before .args .edition) r) (then (c .before .before .before .before .before .before .before .before .before .before .before .before .before .before .put-header .ensures) (then (c .before .before .before .before .before .before .before .before .before .before .put-names .ensures) (then t p)))
 
 pub put-message-spec : {M : Type 1} → statement M
 put-message-spec =

@@ -12,8 +12,8 @@ returns c =
     let a = n .before .before .args in
     let text = a .text .now in
     let numbers = a .numbers .now in (
-      asked text numbers (n .read-names .ensures) (s .read-settings .ensures) (p .read-points .ensures .0),
-      after text numbers (n .read-names .ensures) (s .read-settings .ensures) (p .read-points .ensures .1),
+      asked text (a .from) numbers (n .read-names .ensures) (s .read-settings .ensures) (p .read-points .ensures .0),
+      after text (a .from) numbers (n .read-names .ensures) (s .read-settings .ensures) (p .read-points .ensures .1),
     )
 
 pub read-request-spec : {M : Type 1} → statement M

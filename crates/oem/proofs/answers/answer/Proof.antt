@@ -1,69 +1,47 @@
--- `oem::answers::answer` meets its contract: by how the text ended.
+-- `oem::answers::answer` meets its contract: 17, or the answer of the edition.
 use borrow.Author.Needs.{needs}
 use lib.ListN.{length}
 use Rattle.text.specs.Numbers.{ascii}
-use Rattle.oem.proofs.Texts.{parts, count-within, message-said, no-request-said, full-said}
+use Rattle.oem.proofs.Texts.{version-part, neither-said, edition-said}
 use Rattle.oem.proofs.answers.answer.Statement.{statement}
 use Rattle.oem.proofs.answers.answer.Tie as tie
 
-answer-request-requires : tie.Need-answer-request-requires
-answer-request-requires c κs =
-    let r = c .before .before .before .before .before in
-    let s = r .before .before .before .before in
-    let text = s .args .text .now in
-    let numbers = s .args .numbers .now in
-    let (e, a) = r .read-request .ensures in
-    (parts text numbers e a, (count-within text numbers e a, s .pre))
+is-neither-requires : tie.Need-is-neither-requires
+is-neither-requires c κs = version-part (c .before .before .before .args .text .now) (c .read-version .ensures)
 
 returns : tie.Need-returns
+unfolding ascii
 returns c =
     let k = c .before .before in
-    let r = k .before .before .before .before .before .before in
-    let s = r .before .before .before .before in
-    let (e, a) = r .read-request .ensures in
-    message-said (s .args .text .now) (s .args .numbers .now) e a (length (s .args .out .now)) (k .before .before .before .enum-told .given .1) (k .answer-request .ensures)
+    let i = k .before .before .before .before in
+    let v = i .before .before in
+    let a = v .before .before .before .args in
+    neither-said (a .text .now) (v .read-version .ensures) (length (a .numbers .now)) (length (a .out .now)) (i .before .is-neither .ensures) (i .if1 .taken) (k .put-line .ensures)
+
+edition-of-requires : tie.Need-edition-of-requires
+edition-of-requires c κs = version-part (c .before .before .before .before .before .args .text .now) (c .before .before .read-version .ensures)
 
 returns-2 : tie.Need-returns-2
-unfolding ascii
 returns-2 c =
-    let k = c .before .before in
-    let o = k .before .before .before .before .before in
-    let r = o .before .before .before in
-    let s = r .before .before .before .before in
-    let (e, a) = r .read-request .ensures in
-    no-request-said (s .args .text .now) (s .args .numbers .now) e a (length (s .args .out .now)) (o .outcome .given .1) (k .put-line .ensures)
-
-returns-3 : tie.Need-returns-3
-unfolding ascii
-returns-3 c =
-    let k = c .before .before in
-    let o = k .before .before .before .before in
-    let r = o .before .before .before in
-    let s = r .before .before .before .before in
-    let (e, a) = r .read-request .ensures in
-    full-said (s .args .text .now) (s .args .numbers .now) e a (length (s .args .out .now)) (o .enum-told2 .given .1) (k .put-line2 .ensures)
+    let k = c .before .before .before in
+    let e = k .before .before .before in
+    let v = e .before .before .before in
+    let a = v .before .before .before .args in
+    edition-said (a .text .now) (v .read-version .ensures) (length (a .numbers .now)) (length (a .out .now)) (e .before .before .is-neither .ensures) (e .before .if1 .left) (e .edition-of .ensures) (k .answer-from .ensures)
 
 pub answer-spec : {M : Type 1} → statement M
 answer-spec =
     tie.close
     (tie.spec
     (λ c κs. search needs)
-    (λ c. search needs)
-    answer-request-requires
-    (λ c. search needs)
+    is-neither-requires
     (λ c. search needs)
     (λ c. search needs)
     (λ c κs. search needs)
-    (λ c. search needs)
-    (λ c. search needs)
-    (λ c. search needs)
-    (λ c κs. search needs)
-    (λ c. search needs)
     (λ c. search needs)
     returns
+    edition-of-requires
+    (λ c κs. search needs)
     (λ c. search needs)
     (λ c. search needs)
-    returns-2
-    (λ c. search needs)
-    (λ c. search needs)
-    returns-3)
+    returns-2)

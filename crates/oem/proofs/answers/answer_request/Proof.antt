@@ -37,9 +37,9 @@ returns c =
     let out = a .out .now in
     let room = r .room-for .result in
     let fits : room ≤ length out = omega (arith, r .room-for .ensures, room-within (a .asked .settings) (length out)) in
-    subst (λ n. Says (m .put-message .last .0 ++ drop room out) (m .put-message .result .length) (messageOr request n))
+    subst (λ n. Says (m .put-message .last .0 ++ drop room out) (m .put-message .result .length) (messageOr (a .edition) request n))
     (length-take-le room out fits ∙ r .room-for .ensures)
-    (wrote request (take room out) (drop room out) (m .put-message .ensures .0) (m .put-message .ensures .1) (c .if1 .taken))
+    (wrote (a .edition) request (take room out) (drop room out) (m .put-message .ensures .0) (m .put-message .ensures .1) (c .if1 .taken))
 
 returns-2 : tie.Need-returns-2
 unfolding ascii
@@ -54,8 +54,8 @@ returns-2 c =
     let room = r .room-for .result in
     let fits : room ≤ length out = omega (arith, r .room-for .ensures, room-within (a .asked .settings) (length out)) in
     subst (Says (l .put-line .last .0) (l .put-line .result))
-    (refused request (take room out) (m .put-message .ensures .0) (i .if1 .left)
-    ∙ ap (messageOr request) (length-take-le room out fits ∙ r .room-for .ensures))
+    (refused (a .edition) request (take room out) (m .put-message .ensures .0) (i .if1 .left)
+    ∙ ap (messageOr (a .edition) request) (length-take-le room out fits ∙ r .room-for .ensures))
     (l .put-line .ensures)
 
 pub answer-request-spec : {M : Type 1} → statement M

@@ -1,7 +1,7 @@
 -- `oem::answers::put_message` meets its contract: the parts are those of the request.
 use mathlib.Core.Path.{_≡_, _∙_, ap}
 use borrow.Author.Needs.{needs}
-use Rattle.message.specs.Answer.{answerTo, roomAfter}
+use Rattle.message.specs.Answer.{answerAs, roomAs}
 use Rattle.oem.specs.Answers.{requestOf}
 use Rattle.oem.proofs.answers.put_message.Statement.{statement}
 use Rattle.oem.proofs.answers.put_message.Tie as tie
@@ -32,8 +32,8 @@ returns c =
       step = a .settings .step;
       points = a .points .now;
     } in (
-      w .write-message .ensures .0 ∙ ap (λ r. answerTo r out) request,
-      w .write-message .ensures .1 ∙ ap (λ r. roomAfter r out) request,
+      w .write-edition .ensures .0 ∙ ap (λ r. answerAs (a .edition) r out) request,
+      w .write-edition .ensures .1 ∙ ap (λ r. roomAs (a .edition) r out) request,
     )
 
 pub put-message-spec : {M : Type 1} → statement M

@@ -16,12 +16,12 @@ use Rattle.received.proofs.heads.pass_any.Statement.{statement}
 use Rattle.received.proofs.heads.pass_any.Tie as tie
 
 abbrev Inv-loop : tie.InvT-loop
-Inv-loop text k from first at₀ line₀ at line =
+Inv-loop text edition k from first at₀ line₀ at line =
     Inside text at line
-    × (spot true at line (leading (formOf (slotAt k)) (linesIn (drop at text))) ≡ spot true from first (leading (formOf (slotAt k)) (linesIn (drop from text))))
+    × (spot true at line (leading (formOf (slotAt edition k)) (linesIn (drop at text))) ≡ spot true from first (leading (formOf (slotAt edition k)) (linesIn (drop from text))))
 
 abbrev μ-loop : tie.MeasureT-loop
-μ-loop text k from first at₀ line₀ at line = length text - at
+μ-loop text edition k from first at₀ line₀ at line = length text - at
 
 sub-passes : tie.Need-sub-passes Inv-loop μ-loop
 sub-passes c =
@@ -46,7 +46,7 @@ returns c =
     let p = c .before .before .before in
     let l = p .before .before in
     let a = l .before .before .args in
-    let f = formOf (slotAt (a .k)) in
+    let f = formOf (slotAt (a .edition) (a .k)) in
     let text = a .text .now in (
       any-done f text (l .loop .at) (l .loop .line) (p .before .loop-test .taken)
           (ap (λ end. isOf f (between text (l .loop .at) end)) (sym (p .past-line .ensures)) ∙ failed (c .before .passes .ensures) (c .if1 .taken))
@@ -67,7 +67,7 @@ loop-again c =
     let p = c .before .before .before in
     let l = p .before .before in
     let a = l .before .before .args in
-    let f = formOf (slotAt (a .k)) in
+    let f = formOf (slotAt (a .edition) (a .k)) in
     let text = a .text .now in
     let e = p .past-line .ensures in
     let h = p .before .loop-test .taken in (
@@ -85,7 +85,7 @@ returns-2 : tie.Need-returns-2 Inv-loop μ-loop
 returns-2 c =
     let l = c .before in
     let a = l .before .before .args in
-    let f = formOf (slotAt (a .k)) in
+    let f = formOf (slotAt (a .edition) (a .k)) in
     (any-over f (a .text .now) (l .loop .at) (l .loop .line) (c .loop-test .left) ∙ l .loop .inv .1 ∙ any-spot f (a .text .now) (a .from) (a .first), l .loop .inv .0)
 
 pub pass-any-spec : {M : Type 1} → statement M

@@ -16,7 +16,7 @@ returns : tie.Need-returns
 returns c =
     let s = c .before .before in
     let a = s .args in
-    (none-there (formOf (slotAt (a .k))) (a .text .now) (a .at) (a .line) (c .if1 .taken), s .pre)
+    (none-there (formOf (slotAt (a .edition) (a .k))) (a .text .now) (a .at) (a .line) (c .if1 .taken), s .pre)
 
 sub-passes : tie.Need-sub-passes
 sub-passes c =
@@ -38,7 +38,7 @@ returns-2 c =
     let p = c .before .before .before in
     let s = p .before .before .before in
     let a = s .args in
-    let f = formOf (slotAt (a .k)) in (
+    let f = formOf (slotAt (a .edition) (a .k)) in (
       not-of f (a .text .now) (a .at) (a .line) (p .before .if1 .left)
           (ap (λ end. isOf f (between (a .text .now) (a .at) end)) (sym (p .past-line .ensures)) ∙ failed (c .before .passes .ensures) (c .if2 .taken)),
       s .pre,
@@ -49,7 +49,7 @@ returns-3 c =
     let p = c .before .before .before in
     let s = p .before .before .before in
     let a = s .args in
-    let f = formOf (slotAt (a .k)) in
+    let f = formOf (slotAt (a .edition) (a .k)) in
     let e = p .past-line .ensures in
     let more = past-more (a .text .now) (a .at) (p .before .if1 .left) in (
       (λ i. record { good = true; at = e i; line = a .line + 1 })

@@ -11,29 +11,15 @@ add-start : tie.Need-add-start
 add-start c =
     let r = c .before .before in
     let s = r .before .before in
-    let p = placed (s .args .text .now) (s .pre .1) (s .args .k) (s .pre .0 .0) (s .pre .0 .1) (s .pre .0 .2) (r .reach .ensures .0) (c .before .reach2 .ensures .0) in
+    let p = placed (s .args .edition) (s .args .text .now) (s .pre .1) (s .args .k) (s .pre .0 .0) (s .pre .0 .1) (s .pre .0 .2) (r .reach .ensures .0) (c .before .reach2 .ensures .0) in
     omega (arith, p .within)
-
-sub-t7 : tie.Need-sub-t7
-sub-t7 c =
-    let r = c .before .before .before in
-    let s = r .before .before in
-    let p = placed (s .args .text .now) (s .pre .1) (s .args .k) (s .pre .0 .0) (s .pre .0 .1) (s .pre .0 .2) (r .reach .ensures .0) (c .before .before .reach2 .ensures .0) in
-    omega (arith, p .ends)
-
-sub-t8 : tie.Need-sub-t8
-sub-t8 c =
-    let r = c .before .before .before in
-    let s = r .before .before in
-    let p = placed (s .args .text .now) (s .pre .1) (s .args .k) (s .pre .0 .0) (s .pre .0 .1) (s .pre .0 .2) (r .reach .ensures .0) (c .before .before .reach2 .ensures .0) in
-    omega (arith, p .ends)
 
 returns : tie.Need-returns
 returns c =
     let r = c .before .before .before in
     let s = r .before .before in
-    let p = placed (s .args .text .now) (s .pre .1) (s .args .k) (s .pre .0 .0) (s .pre .0 .1) (s .pre .0 .2) (r .reach .ensures .0) (c .before .before .reach2 .ensures .0) in
-    (place-is (s .args .text .now) (s .pre .1) (s .args .k) (s .pre .0 .0) (s .pre .0 .1) p, omega (arith, p .ends, p .within))
+    let p = placed (s .args .edition) (s .args .text .now) (s .pre .1) (s .args .k) (s .pre .0 .0) (s .pre .0 .1) (s .pre .0 .2) (r .reach .ensures .0) (c .before .before .reach2 .ensures .0) in
+    (place-is (s .args .edition) (s .args .text .now) (s .pre .1) (s .args .k) (s .pre .0 .0) (s .pre .0 .1) p, omega (arith, p .ends, p .within))
 
 pub place-of-spec : {M : Type 1} → statement M
 place-of-spec =
@@ -43,6 +29,14 @@ place-of-spec =
     (λ c. omega (arith, c .before .before .pre .0 .0))
     (λ c κs. omega (arith, c .before .before .pre .0 .0))
     add-start
-    sub-t7
-    sub-t8
+    (λ c.
+    let r = c .before .before .before in
+    let s = r .before .before in
+    let p = placed (s .args .edition) (s .args .text .now) (s .pre .1) (s .args .k) (s .pre .0 .0) (s .pre .0 .1) (s .pre .0 .2) (r .reach .ensures .0) (c .before .before .reach2 .ensures .0) in
+    omega (arith, p .ends))
+    (λ c.
+    let r = c .before .before .before in
+    let s = r .before .before in
+    let p = placed (s .args .edition) (s .args .text .now) (s .pre .1) (s .args .k) (s .pre .0 .0) (s .pre .0 .1) (s .pre .0 .2) (r .reach .ensures .0) (c .before .before .reach2 .ensures .0) in
+    omega (arith, p .ends))
     returns)

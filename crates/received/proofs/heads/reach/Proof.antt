@@ -17,13 +17,13 @@ use Rattle.received.proofs.heads.reach.Statement.{statement}
 use Rattle.received.proofs.heads.reach.Tie as tie
 
 abbrev Inv-loop : tie.InvT-loop
-Inv-loop text k at₀ line₀ j₀ at line j =
+Inv-loop text edition k at₀ line₀ j₀ at line j =
     (j ≤ k)
     × Inside text at line
-    × (spotFrom at line (walk (drop j (take k slots)) (linesIn (drop at text))) ≡ spotFrom 0 1 (walk (take k slots) (linesIn text)))
+    × (spotFrom at line (walk (drop j (take k (slots edition))) (linesIn (drop at text))) ≡ spotFrom 0 1 (walk (take k (slots edition)) (linesIn text)))
 
 abbrev μ-loop : tie.MeasureT-loop
-μ-loop text k at₀ line₀ j₀ at line j = k - j
+μ-loop text edition k at₀ line₀ j₀ at line j = k - j
 
 returns : tie.Need-returns Inv-loop μ-loop
 returns c =
@@ -35,8 +35,8 @@ returns c =
     let at = l .loop .at in
     let line = l .loop .line in
     let j = l .loop .j in (
-      stopped text at line (slotAt j) (drop (j + 1) (take (a .k) slots)) (p .pass-slot .ensures .0) (not-true _ (c .if1 .taken))
-          ∙ ap (λ ss. spotFrom at line (walk ss (linesIn (drop at text)))) (sym (slot-next (a .k) j (p .before .loop-test .taken) (s .pre)))
+      stopped text at line (slotAt (a .edition) j) (drop (j + 1) (take (a .k) (slots (a .edition)))) (p .pass-slot .ensures .0) (not-true _ (c .if1 .taken))
+          ∙ ap (λ ss. spotFrom at line (walk ss (linesIn (drop at text)))) (sym (slot-next (a .edition) (a .k) j (p .before .loop-test .taken) (s .pre)))
           ∙ l .loop .inv .2,
       p .pass-slot .ensures .1,
     )
@@ -53,8 +53,8 @@ loop-again c =
     let j = l .loop .j in (
       omega arith,
       p .pass-slot .ensures .1,
-      sym (passed text at line (slotAt j) (drop (j + 1) (take (a .k) slots)) (p .pass-slot .ensures .0) (not-false _ (c .if1 .left)))
-          ∙ ap (λ ss. spotFrom at line (walk ss (linesIn (drop at text)))) (sym (slot-next (a .k) j (p .before .loop-test .taken) (s .pre)))
+      sym (passed text at line (slotAt (a .edition) j) (drop (j + 1) (take (a .k) (slots (a .edition)))) (p .pass-slot .ensures .0) (not-false _ (c .if1 .left)))
+          ∙ ap (λ ss. spotFrom at line (walk ss (linesIn (drop at text)))) (sym (slot-next (a .edition) (a .k) j (p .before .loop-test .taken) (s .pre)))
           ∙ l .loop .inv .2,
     )
 
@@ -63,7 +63,7 @@ returns-2 c =
     let l = c .before in
     let s = l .before .before in
     let a = s .args in
-    (none-left (a .text .now) (l .loop .at) (l .loop .line) (a .k) (l .loop .j) (c .loop-test .left) (s .pre) ∙ l .loop .inv .2, l .loop .inv .1)
+    (none-left (a .edition) (a .text .now) (l .loop .at) (l .loop .line) (a .k) (l .loop .j) (c .loop-test .left) (s .pre) ∙ l .loop .inv .2, l .loop .inv .1)
 
 pub reach-spec : {M : Type 1} → statement M
 reach-spec =

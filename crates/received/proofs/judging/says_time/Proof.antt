@@ -14,7 +14,7 @@ returns c =
     let s = p .before .before in
     let a = s .args in
     c .is-time-of .ensures
-    ∙ ap (λ v. sameText v (timeAfter (a .seconds))) (value-is (a .text .now) (s .pre .1 .0) (a .k) (s .pre .0 .0) (s .pre .0 .1) (p .place-of .ensures .0))
+    ∙ ap (λ v. sameText v (timeAfter (a .seconds))) (value-is (a .edition) (a .text .now) (s .pre .1 .0) (a .k) (s .pre .0 .0) (s .pre .0 .1) (p .place-of .ensures .0))
 
 pub says-time-spec : {M : Type 1} → statement M
 says-time-spec =
