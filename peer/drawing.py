@@ -54,7 +54,7 @@ class Script:
     def call(self, line):
         """Makes a call and takes note of what it leaves; the answer, none for fill."""
         self.send(line)
-        self.answer = None if line.startswith('fill') else Answer(self.read())
+        self.answer = None if line.startswith('fill') else answer_in(self.read())
         self.read_record()
         self.note(line)
         return self.answer
@@ -88,6 +88,8 @@ class Script:
         elif self.answer.call == 'open' and self.answer.number == 0:
             numbers = [int(n) * PARTS for n in line.split()[5:11]]
             self.present = list(zip(numbers[:3], numbers[3:]))
+        elif self.answer.call == 'run':
+            self.present = None if self.answer.points else self.present
         elif self.answer.kind in (ACCEPTING, OPENING):
             newest = self.record()[POINTS] - 1 if self.answer.call in ROUNDS else 0
             self.present = [(self.answer.position(axis, newest), self.answer.velocity(axis, newest))

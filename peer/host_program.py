@@ -10,7 +10,7 @@ COMPARE = TOP / 'tests' / 'host'
 NAMES = [f'durungkilat_{call}' for call in ('open', 'predict', 'correct', 'withdraw')]
 # The files of the peer that a stand-in is made of, and those that the comparison needs.
 STAND_IN = ('rules.c', 'rounds.c', 'host.c', 'stand_in.c')
-RULES = STAND_IN[:3]
+RULES = (*STAND_IN[:3], 'runs.c')
 # What stands before the names of the tools: for this machine, and for x86-64, which the archive is for.
 HERE_TOOLS, X86_TOOLS = '', '' if platform.machine() == 'x86_64' else 'x86_64-linux-gnu-'
 

@@ -7,6 +7,7 @@
  *   why F F F
  *   start POINTS TOLERANCES LIMIT X Y Z VX VY VZ F F ..   as open
  *   refine F F ..                                         0 to 64 floats
+ *   run WANTED F F ..                                     0 to 192 floats
  *   fill STATE POINTS TOLERANCES LIMIT ACCEPTED CORRECTIONS, then for each axis
  *        S1 whole, S1 part, S2 whole, S2 part,
  *        held sum of positions whole, part, that of velocities whole, part,
@@ -16,7 +17,7 @@
  * TOLERANCES are two words, for position and for velocity.
  * Words stand apart by exactly one space, none before the first or after the last. A line ends
  * with a newline and has at most 4,096 bytes before it; what follows the last newline is no call.
- * POINTS TOLERANCES LIMIT ACCEPTED CORRECTIONS are unsigned of 64 bits, parts unsigned of 32 bits,
+ * WANTED POINTS TOLERANCES LIMIT ACCEPTED CORRECTIONS are unsigned of 64 bits, parts unsigned of 32 bits,
  * wholes, samples, X Y Z VX VY VZ signed of 64 bits, STATE is 0, 1, 2 or 3. A number is 0, or a
  * digit from 1 to 9 and then digits, a signed one also with - before it (but not -0). A float is the
  * 16 digits of its bits, 0 to 9 and a to f. At the first other line `line N: not a call` is written,
@@ -27,6 +28,7 @@
  *   of another call: the point x, vx, y, vy, z, vz, then the changes
  * where the changes are two values, the largest of position and the largest of velocity, and
  *   of why: VALUE, its change, its TOLERANCE, GIVEN and a difference for each axis
+ * That of a run is its name, NUMBER, the points settled and the samples used.
  * Behind each answer but those of why and of save the record is written. The answer of save is its
  * name, 0 and the 656 bytes of the record's image; that of load is its name and 0 or, for bytes that
  * are no image, 14, and the record is then as it was. */
@@ -39,6 +41,7 @@
 
 #define LINE_MOST 4096
 #define FLOATS_MOST 64
+#define RUN_FLOATS_MOST 192
 #define BYTES_MOST (LINE_MOST / 2)
 
 /* Reading words */
@@ -129,11 +132,11 @@ static size_t byte_word(struct text *t, uint8_t bytes[BYTES_MOST])
     return length;
 }
 
-/* The floats up to the end of the line; how many. */
-static size_t float_words(struct text *t, double floats[FLOATS_MOST])
+/* The floats up to the end of the line, at most so many; how many. */
+static size_t float_words(struct text *t, double *floats, size_t most)
 {
     size_t length = 0;
-    while (t->good && t->at < t->end && length < FLOATS_MOST)
+    while (t->good && t->at < t->end && length < most)
         floats[length++] = float_word(t);
     return length;
 }
@@ -161,7 +164,7 @@ static struct opening opening_words(struct text *t, double floats[FLOATS_MOST])
         given.position[i] = signed_word(t);
     for (int i = 0; i < AXES; i++)
         given.velocity[i] = signed_word(t);
-    given.length = float_words(t, floats);
+    given.length = float_words(t, floats, FLOATS_MOST);
     return given;
 }
 
@@ -314,10 +317,22 @@ static bool do_start(struct record *r, struct text *t)
 static bool do_refine(struct record *r, struct text *t)
 {
     double floats[FLOATS_MOST];
-    size_t length = float_words(t, floats);
+    size_t length = float_words(t, floats, FLOATS_MOST);
     if (!read_whole(t))
         return false;
     write_round("refine", later_round(r, floats, length));
+    return true;
+}
+
+static bool do_run(struct record *r, struct text *t)
+{
+    double floats[RUN_FLOATS_MOST];
+    uint64_t wanted = unsigned_word(t, UINT64_MAX);
+    size_t length = float_words(t, floats, RUN_FLOATS_MOST);
+    if (!read_whole(t))
+        return false;
+    struct run_answer a = run_session(r, wanted, floats, length);
+    printf("run %d %" PRIu64 " %" PRIu64 "\n", a.number, a.points, a.used);
     return true;
 }
 
@@ -393,6 +408,8 @@ static bool do_line(struct record *r, struct text t)
         done = do_start(r, &t);
     else if (next_is(&t, "refine"))
         done = do_refine(r, &t);
+    else if (next_is(&t, "run"))
+        done = do_run(r, &t);
     else if (next_is(&t, "fill"))
         done = do_fill(r, &t);
     else if (next_is(&t, "load"))

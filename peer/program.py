@@ -10,7 +10,7 @@ HERE = pathlib.Path(__file__).resolve().parent
 TOP = HERE.parent
 OUT = TOP / 'target' / 'peer'
 REPLAY = TOP / 'programs' / 'replay'
-SOURCES = ('rules.h', 'shared.h', 'host.h', 'rules.c', 'rounds.c', 'reasons.c', 'host.c', 'peer.c')
+SOURCES = ('rules.h', 'shared.h', 'host.h', 'rules.c', 'rounds.c', 'reasons.c', 'runs.c', 'host.c', 'peer.c')
 
 PARTS = 159667200
 AXES = range(3)
@@ -103,6 +103,11 @@ def refine_line(floats):
     return ' '.join(['refine', *floats])
 
 
+def run_line(wanted, floats):
+    """A line of a run, for so many points."""
+    return ' '.join(['run', str(wanted), *floats])
+
+
 def fill_line(record):
     return ' '.join(map(str, ['fill', *record]))
 
@@ -163,6 +168,21 @@ class Answer:
     def changes(self):
         """The largest change of position and that of velocity."""
         return self.values[:2] if self.call in ROUNDS else self.values[-2:]
+
+
+class RunAnswer:
+    """An answer to a run: number, points settled, samples used."""
+
+    kind = 0
+
+    def __init__(self, line):
+        self.call, *numbers = line.decode().split()
+        self.number, self.points, self.used = map(int, numbers)
+
+
+def answer_in(line):
+    """The answer of any call that changes a session."""
+    return RunAnswer(line) if line.startswith(b'run') else Answer(line)
 
 
 class Reason:

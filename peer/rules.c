@@ -341,6 +341,11 @@ static bool stands(const struct record *r)
     return true;
 }
 
+bool is_settled(const struct record *r)
+{
+    return r->state == SETTLED && stands(r);
+}
+
 void settle(struct record *r)
 {
     r->state = SETTLED;
@@ -411,7 +416,7 @@ struct answer open_session(struct record *r, const struct opening *given)
 struct answer predict(struct record *r)
 {
     struct answer result = {.kind = NONE};
-    if (r->state != SETTLED || !stands(r))
+    if (!is_settled(r))
         return bare(7);
     if (r->accepted == ACCEPTED_MOST)
         return bare(9);

@@ -74,6 +74,12 @@ struct reason {
     int64_t differences[AXES];
 };
 
+/* What a run answers: the number of the call that ended it, the points settled, the samples used. */
+struct run_answer {
+    int number;
+    uint64_t points, used;
+};
+
 /* What open and a first round are given; samples oldest point first. */
 struct opening {
     uint64_t points;
@@ -98,6 +104,9 @@ struct reason why(const struct record *r, const double sample[AXES]);
 /* The rounds of a start: the given point is the centre one, later samples come as in the first. */
 struct round_answer first_round(struct record *r, const struct opening *given);
 struct round_answer later_round(struct record *r, const double *samples, size_t length);
+
+/* Predicts and corrects by the samples, until the points are settled, a call is refused or no sample is left. */
+struct run_answer run_session(struct record *r, uint64_t wanted, const double *samples, size_t length);
 
 /* The exact value of a number of parts, and its report. */
 struct exact split(wide number);

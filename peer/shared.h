@@ -1,4 +1,4 @@
-/* What the rounds and the reasons use of the rules. */
+/* What the rounds, the reasons and the runs use of the rules. */
 #ifndef SHARED_H
 #define SHARED_H
 
@@ -45,6 +45,9 @@ void take_changes(struct motion *largest, struct motion before, struct motion af
 
 /* Whether the largest changes of each kind are within their tolerances. */
 bool agrees(struct motion largest, struct tolerances tolerances);
+
+/* Whether the record is settled and does not count as closed. */
+bool is_settled(const struct record *r);
 
 /* Settled at the point of the sums. */
 void settle(struct record *r);

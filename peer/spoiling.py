@@ -1,5 +1,5 @@
 """Lines that are no calls, or hardly are, made from lines that are."""
-from program import RECORD_LENGTH, bits, fill_line, load_line, open_line, refine_line, start_line, why_line
+from program import RECORD_LENGTH, bits, fill_line, load_line, open_line, refine_line, run_line, start_line, why_line
 
 U64, I64, U32 = 2 ** 64 - 1, 2 ** 63 - 1, 2 ** 32 - 1
 # What takes the place of a number, and of a float.
@@ -13,6 +13,9 @@ LINES = ['', ' ', 'predict ', ' predict', 'predict  ', 'Predict', 'predictpredic
          'refine 0', 'why', 'why ', 'wh', 'whys', 'why 0', 'save ', 'save 0', 'saved', 'sav', 'saves', 'load', 'load ',
          'loa', 'loaded', 'load00', 'load  00', 'load 00 ', 'load 00 00', 'load 0', 'load 000', 'load 0g', 'load g0', 'load 0A',
          'load 0x00', 'load -0', 'load 00', 'load 00\r',
+         'run', 'run ', 'ru', 'runs', 'run 0', 'run 1 ', 'run 01', 'run -1', 'run  1', 'run1', 'run 1 0',
+         f'run {U64}', f'run {U64 + 1}',
+         *(run_line(1, [bits(0.0)] * count) for count in (64, 191, 192, 193, 194)),
          *(line(1, (0, 0), 1, [0] * 3, [0] * 3, [bits(0.0)] * count)
            for count in (64, 65, 66) for line in (open_line, start_line)),
          *(fill_line([state] + [0] * (RECORD_LENGTH - 1)) for state in (3, 4)),

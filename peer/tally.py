@@ -2,6 +2,7 @@
 import collections
 
 from program import *
+from ran import RUN
 from reasons import ASKED, STATES, count
 from saved import LOAD, SAVE, TAKEN, count_load, count_save
 
@@ -71,6 +72,10 @@ def tally(written):
             count_save(met, line, causes.record)
         elif head == LOAD:
             call, number = head, loaded_number(line)
+        elif head == RUN:
+            call, number = head, int(words[1])
+            met[call] += 1
+            met[call, number] += 1
         elif head == 'record':
             before, causes.record = causes.record, record_fields(line)
             if call == LOAD:
@@ -97,7 +102,7 @@ def tally(written):
 
 
 def calls(met):
-    return sum(met[call] for call in (*NUMBERS, 'fill', ASKED, SAVE, LOAD))
+    return sum(met[call] for call in (*NUMBERS, 'fill', ASKED, SAVE, LOAD, RUN))
 
 
 def print_table(met):
@@ -106,7 +111,7 @@ def print_table(met):
         print(f'{call:10}{met[call]:>9}' + ''.join(
             f'{met[call, n] if n in numbers else "":>9}' for n in COLUMNS).rstrip())
     print(f'{"fill":10}{met["fill"]:>9}')
-    for call in (ASKED, SAVE, LOAD, NO_CALL):
+    for call in (ASKED, SAVE, LOAD, RUN, NO_CALL):
         print(f'{call:10}{met[call]:>9}')
     for call, kinds in KINDS_OF.items():
         print(f'{call} answers: ' + ', '.join(f'{kind} {met[call, kind]}' for kind in kinds))

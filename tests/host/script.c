@@ -1,5 +1,5 @@
 /* A script as peer/check draws it, read from standard input: open, predict, correct and withdraw
- * are made as host calls; fill, start and refine change the record, whose image goes to the next
+ * are made as host calls; fill, start, refine and run change the record, whose image goes to the next
  * host call. */
 #include "draw.h"
 #include "runs.h"
@@ -11,6 +11,7 @@
 
 #define LINE_MOST 4097
 #define FLOATS_MOST 64
+#define RUN_FLOATS_MOST 192
 
 static uint8_t image[IMAGE_LENGTH];
 static struct record held;
@@ -39,11 +40,11 @@ static struct exact exact_words(void)
     return (struct exact){ticks, (uint32_t)natural()};
 }
 
-/* The floats that are left; how many. */
-static size_t float_words(double floats[FLOATS_MOST])
+/* The floats that are left, at most so many; how many. */
+static size_t float_words(double *floats, size_t most)
 {
     size_t count = 0;
-    for (const char *word; count < FLOATS_MOST && (word = strtok(NULL, " \n")) != NULL; count++) {
+    for (const char *word; count < most && (word = strtok(NULL, " \n")) != NULL; count++) {
         uint64_t bits = strtoull(word, NULL, 16);
         memcpy(&floats[count], &bits, sizeof bits);
     }
@@ -75,7 +76,7 @@ static struct call opening_words(double floats[FLOATS_MOST])
         c.position[i] = whole();
     for (int i = 0; i < AXES; i++)
         c.velocity[i] = whole();
-    c.samples.length = 8 * float_words(floats);
+    c.samples.length = 8 * float_words(floats, FLOATS_MOST);
     memcpy(c.samples.bytes, floats, c.samples.length);
     return c;
 }
@@ -92,6 +93,15 @@ static void do_start(void)
     memcpy(given.position, c.position, sizeof given.position);
     memcpy(given.velocity, c.velocity, sizeof given.velocity);
     first_round(&held, &given);
+    save_held();
+}
+
+static void do_run(void)
+{
+    double floats[RUN_FLOATS_MOST];
+    uint64_t wanted = natural();
+    size_t count = float_words(floats, RUN_FLOATS_MOST);
+    run_session(&held, wanted, floats, count);
     save_held();
 }
 
@@ -132,7 +142,7 @@ static void do_line(const char *name)
         host_call(&c);
     } else if (strcmp(name, "correct") == 0) {
         struct call c = plain_call(CORRECT);
-        float_words(floats);
+        float_words(floats, FLOATS_MOST);
         memcpy(c.sample, floats, sizeof c.sample);
         host_call(&c);
     } else if (strcmp(name, "predict") == 0) {
@@ -142,11 +152,13 @@ static void do_line(const char *name)
         struct call c = plain_call(WITHDRAW);
         host_call(&c);
     } else if (strcmp(name, "refine") == 0) {
-        size_t count = float_words(floats);
+        size_t count = float_words(floats, FLOATS_MOST);
         later_round(&held, floats, count);
         save_held();
     } else if (strcmp(name, "start") == 0) {
         do_start();
+    } else if (strcmp(name, "run") == 0) {
+        do_run();
     } else if (strcmp(name, "fill") == 0) {
         do_fill();
     }

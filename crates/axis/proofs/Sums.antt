@@ -1,5 +1,5 @@
 -- What the code makes of its calls' results, and how large it is. An i64 is passed on by its bits.
-use mathlib.Core.Path.{_≡_, ap, _∙_}
+use mathlib.Core.Path.{_≡_, sym, ap, _∙_}
 use Prim.Native.Nat.{ℕ, _+_, _^_, _≤_}
 use native.Mathlib.Omega.{arith}
 use lib.IntN.{ℤ, pos, natAbs, _+ℤ_, _-ℤ_}
@@ -41,3 +41,8 @@ module _ (e : Exact) (n : ℤ) {r : Exact} (f : SFits w64 n) (p : r ≡ exactOf 
 pub motion-is : {p v : Exact} (m n : ℤ) → p ≡ exactOf m → v ≡ exactOf n → record { position = p; velocity = v } ≡ motionOf m n
 unfolding motionOf
 motion-is m n e f = λ i. record { position = e i; velocity = f i }
+
+-- ---- what an arm of a match found with its own number
+
+pub numbered : {A : Type 0} (f : ℕ → A) {k p : ℕ} {r : A} → p ≡ k → r ≡ f k → r ≡ f p
+numbered f n e = e ∙ ap f (sym n)

@@ -1,15 +1,15 @@
 // Estimates: the one that an axis holds, equality and the range.
 use crate::Axis;
 use crate::Motion;
-use crate::formulas;
 ghost use mathlib.Core.Path.{_≡_};
 ghost use Rattle.axis.specs.Estimates.{estimating, sameMotion, inRange};
 
 pub fn with_estimate(a: Axis, estimate: Motion) -> Axis
     ensures { λ r. ⌜ r ≡ estimating a estimate ⌝ }
 {
-    let samples = a.samples;
-    formulas::axis_with(a.first, a.second, a.older, samples, estimate)
+    let mut next = a;
+    next.estimate = estimate;
+    next
 }
 
 pub fn same_motion(a: Motion, b: Motion) -> bool

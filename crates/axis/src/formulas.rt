@@ -1,6 +1,9 @@
 // The stepping formulas on one axis.
 use crate::Axis;
 use crate::Motion;
+use crate::parts::corrector_part;
+use crate::parts::older_motion;
+use crate::parts::predictor_part;
 use coefficients::Formula;
 use exact::Exact;
 ghost use mathlib.Core.Path.{_≡_};
@@ -9,10 +12,10 @@ ghost use lib.IntN.{natAbs, _+ℤ_, _-ℤ_};
 ghost use Rattle.coefficients.specs.Formulas.{ownPart, Small};
 ghost use Rattle.exact.specs.Numerator.{exactOf, numerator, Bounded};
 ghost use Rattle.axis.specs.Formulas.{ticks, axisWith, still, emptyAxis};
-ghost use Rattle.axis.specs.Formulas.{presentMotion, predictedMotion, olderMotion, correctedMotion, keptSamples, advancedAxis, openedAxis};
+ghost use Rattle.axis.specs.Formulas.{presentMotion, predictedMotion, correctedMotion, keptSamples, advancedAxis, openedAxis};
 ghost use Rattle.axis.specs.Ready.{Ready, Held, Placed};
 
-// Every axis is made by this.
+// An axis from its parts.
 pub fn axis_with(
     first: Exact,
     second: Exact,
@@ -45,9 +48,10 @@ pub fn present_motion(p: usize, a: Axis) -> Motion
     ensures { λ r. ⌜ r ≡ presentMotion p a ⌝ }
 {
     let samples = a.samples;
+    let corrector = corrector_part(p, samples);
     let before = a.second.subtract(a.first);
-    let position = moved(before, coefficients::position_corrector(p, samples));
-    let velocity = moved(a.first, coefficients::velocity_corrector(p, samples));
+    let position = before.add(corrector.position);
+    let velocity = a.first.add(corrector.velocity);
     Motion { position, velocity }
 }
 
@@ -57,8 +61,9 @@ pub fn predicted_motion(p: usize, a: Axis) -> Motion
     ensures { λ r. ⌜ r ≡ predictedMotion p a ⌝ }
 {
     let samples = a.samples;
-    let position = moved(a.second, coefficients::position_predictor(p, samples));
-    let velocity = moved(a.first, coefficients::velocity_predictor(p, samples));
+    let predictor = predictor_part(p, samples);
+    let position = a.second.add(predictor.position);
+    let velocity = a.first.add(predictor.velocity);
     Motion { position, velocity }
 }
 
@@ -69,17 +74,6 @@ pub fn next_first(first: Exact, sample: i64) -> Exact
     ensures { λ r. ⌜ r ≡ exactOf (numerator first +ℤ ticks sample) ⌝ }
 {
     moved(first, sample * (Exact::D as i64))
-}
-
-// What the samples so far give to the next corrected point.
-pub fn older_motion(p: usize, samples: [i64; 9]) -> Motion
-    requires { ⌜ (1 ≤ p) × (p ≤ 9) ⌝ }
-    requires { ⌜ Small samples ⌝ }
-    ensures { λ r. ⌜ r ≡ olderMotion p samples ⌝ }
-{
-    let position = Exact::split(coefficients::older_part(Formula::PositionCorrector, p, samples));
-    let velocity = Exact::split(coefficients::older_part(Formula::VelocityCorrector, p, samples));
-    Motion { position, velocity }
 }
 
 // A sum with what the older samples give, and then the point's own sample.

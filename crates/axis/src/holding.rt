@@ -2,6 +2,7 @@
 use crate::Axis;
 use crate::estimates;
 use crate::formulas;
+use crate::parts;
 use exact::Exact;
 ghost use mathlib.Core.Path.{_≡_};
 ghost use Prim.Native.Nat.{_≤_};
@@ -35,7 +36,7 @@ fn place_holds(used: bool, sample: i64) -> bool
     sample == 0
 }
 
-pub fn places_hold(p: usize, samples: [i64; 9]) -> bool
+fn places_by(p: usize, samples: [i64; 9]) -> bool
     ensures { λ r. ⌜ r ≡ placesHold p samples ⌝ }
 {
     let mut i: usize = 0;
@@ -46,6 +47,24 @@ pub fn places_hold(p: usize, samples: [i64; 9]) -> bool
         i += 1;
     }
     true
+}
+
+// The number of points is told apart first, so that the compiled code looks at each place in one way.
+pub fn places_hold(p: usize, samples: [i64; 9]) -> bool
+    ensures { λ r. ⌜ r ≡ placesHold p samples ⌝ }
+{
+    match p {
+        1 => places_by(1, samples),
+        2 => places_by(2, samples),
+        3 => places_by(3, samples),
+        4 => places_by(4, samples),
+        5 => places_by(5, samples),
+        6 => places_by(6, samples),
+        7 => places_by(7, samples),
+        8 => places_by(8, samples),
+        9 => places_by(9, samples),
+        _ => places_by(p, samples),
+    }
 }
 
 // No axis whose present point is in range has a first sum outside these; within them nothing leaves its type.
@@ -85,5 +104,5 @@ pub fn axis_holds(p: usize, a: Axis) -> bool
     if !estimates::in_range(a.estimate) {
         return false;
     }
-    estimates::same_motion(a.older, formulas::older_motion(p, samples))
+    estimates::same_motion(a.older, parts::older_motion(p, samples))
 }

@@ -5,6 +5,7 @@ mod changes;
 mod estimates;
 mod formulas;
 mod holding;
+mod parts;
 
 pub use changes::agrees_on;
 pub use changes::change;
@@ -20,12 +21,12 @@ pub use formulas::left_of;
 pub use formulas::moved;
 pub use formulas::next_first;
 pub use formulas::no_motion;
-pub use formulas::older_motion;
 pub use formulas::opened_axis;
 pub use formulas::predicted_motion;
 pub use formulas::present_motion;
 pub use holding::axis_holds;
 pub use holding::places_hold;
+pub use parts::older_motion;
 
 // A position and its velocity.
 pub struct Motion {

@@ -20,6 +20,7 @@ use Rattle.calendar.specs.Text.{timeIn, timeText}
 use Rattle.calendar.specs.Back.{time-exactly, text-long}
 use Rattle.message.specs.declared.Edition.{Edition}
 use Rattle.message.specs.declared.Edition.the-variants.{Two}
+use Rattle.message.specs.Editions.{versionOf}
 use Rattle.message.specs.Request.{Request, countOf, secondsIn, secondsAt}
 use Rattle.message.specs.Message.{entry, says, texts, lineFrom, linesAs, messageAs, message}
 use Rattle.message.specs.Parts.{headerLines, nameLines, timeLines}
@@ -110,7 +111,7 @@ message-long r w =
     omega (
       arith,
       length-flatten (linesAs Two r),
-      length-says (ascii "CCSDS_OEM_VERS") (ascii "2.0"),
+      length-says (ascii "CCSDS_OEM_VERS") (versionOf Two),
       length-says (ascii "CREATION_DATE") (r .created),
       length-says (ascii "ORIGINATOR") (r .originator),
       length-says (ascii "OBJECT_NAME") (r .object),

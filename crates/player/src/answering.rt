@@ -1,5 +1,6 @@
 // The answer to one line of a script.
 use crate::calls;
+use crate::runs::answer_run;
 use epoch_steps::AfterRound;
 use script::Name;
 use session::Session;
@@ -15,7 +16,7 @@ pub(crate) struct Answered {
     pub(crate) recorded: bool,
 }
 
-fn no_call(s: Session, at: usize) -> Answered
+pub(crate) fn no_call(s: Session, at: usize) -> Answered
     ensures { λ r. ⌜ r .end ≤ at + 3411 ⌝ }
 {
     Answered {
@@ -229,6 +230,7 @@ pub(crate) fn answer_line(out: &mut [u8], at: usize, s: Session, line: &[u8]) ->
         Name::Why => answer_why(out, at, s, line),
         Name::Save => answer_save(out, at, s),
         Name::Load => answer_load(out, at, s, line),
+        Name::Run => answer_run(out, at, s, line),
         Name::Nothing => no_call(s, at),
     }
 }

@@ -33,6 +33,7 @@ fn explain_call(out: &mut [u8], at: usize, s: Session, line: &[u8], number: u64)
         Name::Why => at,
         Name::Save => at,
         Name::Load => at,
+        Name::Run => at,
         Name::Nothing => at,
     }
 }

@@ -3,6 +3,7 @@ mod answering;
 mod calls;
 mod explaining;
 mod lines;
+mod runs;
 mod turns;
 
 pub use turns::play;

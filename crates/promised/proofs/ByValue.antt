@@ -18,4 +18,5 @@ by-value 𝓤 H A mem run =
       withdraws = record { requires = λ κs a g. refl; ensures = λ κs a g r left. refl };
       starts = record { requires = λ κs a g. refl; ensures = λ κs a g r left. refl };
       refines = record { requires = λ κs a g. refl; ensures = λ κs a g r left. refl };
+      runs = record { requires = λ κs a g. refl; ensures = λ κs a g r left. refl };
     }

@@ -53,7 +53,7 @@ carried : (P : Session → List Event → Type 0) {s left : Session} {calls : Li
     P (after ours s calls) (history ours s calls) → P left es
 carried P {s} {left} {calls} {es} run h = subst (λ t. P t es) (sym (run-left run)) (subst (P (after ours s calls)) (sym (run-told run)) h)
 
-keeps : (o : Origin) (s : Session) (calls : List Call) → Begins o s → Keeping o (after ours s calls) (history ours s calls)
+pub keeps : (o : Origin) (s : Session) (calls : List Call) → Begins o s → Keeping o (after ours s calls) (history ours s calls)
 keeps o s calls b =
     record {
       told = our-calls .formulas .told o s b calls;
@@ -65,7 +65,7 @@ keeps o s calls b =
       last = our-calls .leaves .last o s b calls;
     }
 
-counts : (s : Session) (calls : List Call) → OpenRecord s → Counting s (after ours s calls) (history ours s calls)
+pub counts : (s : Session) (calls : List Call) → OpenRecord s → Counting s (after ours s calls) (history ours s calls)
 counts s calls h =
     record {
       accepted = our-calls .counts .accepted s h calls;
@@ -73,7 +73,7 @@ counts s calls h =
       settled = our-calls .counts .settled s h calls;
     }
 
-together : (o : Origin) (s t : Session) (calls others : List Call) → Begins o s → Begins o t →
+pub together : (o : Origin) (s t : Session) (calls others : List Call) → Begins o s → Begins o t →
     samplesOf (entries (history ours s calls)) ≡ samplesOf (entries (history ours t others)) → Together (after ours s calls) (after ours t others)
 together o s t calls others b d e =
     let same = our-calls .demand3 .same o s t b d calls others e in
@@ -97,6 +97,7 @@ promised =
             withdraws = λ s t u a b h k. one (h .0) (h .1) (k .0) (k .1);
             starts = λ r s t a b h k. one (h .0) (h .1) (k .0) (k .1);
             refines = λ s x t u a b h k. one (h .0) (h .1) (k .0) (k .1);
+            runs = λ s x n t u a b h k. one (h .0) (h .1) (k .0) (k .1);
           };
       run = λ s left calls es run. (run-left run, run-told run);
       life = λ s left acts life. life-left life;

@@ -18,7 +18,8 @@ use Rattle.stepper.proofs.correct as onCorrect
 use Rattle.stepper.proofs.withdraw as onWithdraw
 use Rattle.stepper.proofs.start as onStart
 use Rattle.stepper.proofs.refine as onRefine
-use Rattle.promised.specs.Promises.{OpenAllows, PredictAllows, CorrectAllows, WithdrawAllows, StartAllows, RefineAllows}
+use Rattle.stepper.proofs.run as onRun
+use Rattle.promised.specs.Promises.{OpenAllows, PredictAllows, CorrectAllows, WithdrawAllows, StartAllows, RefineAllows, RunAllows}
 
 -- a contract requires nothing, and ensures P of what was passed, what is returned and what is left: no more and no less
 pub record Says {M : Type 1} (𝓤 : URA M) (T : Ended) (c : Clauses 𝓤 T)
@@ -51,6 +52,9 @@ module _ {M : Type 1} (𝓤 : URA M) (H : Heap 𝓤) (A : Atoms 𝓤) (mem : Mem
   abbrev pub RefineSays : Type 2
   RefineSays = Says 𝓤 onRefine.ended (onRefine.clauses 𝓤 H A mem run) (λ κs (s, (samples, _)) r (left, _). RefineAllows (now s) (now samples) (now left) r)
 
+  abbrev pub RunSays : Type 2
+  RunSays = Says 𝓤 onRun.ended (onRun.clauses 𝓤 H A mem run) (λ κs (s, (samples, (wanted, _))) r (left, _). RunAllows (now s) (now samples) wanted (now left) r)
+
   pub record Contracts : Type 2 where
     pub opens : OpenSays
     pub predicts : PredictSays
@@ -58,3 +62,4 @@ module _ {M : Type 1} (𝓤 : URA M) (H : Heap 𝓤) (A : Atoms 𝓤) (mem : Mem
     pub withdraws : WithdrawSays
     pub starts : StartSays
     pub refines : RefineSays
+    pub runs : RunSays

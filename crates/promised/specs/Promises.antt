@@ -1,6 +1,7 @@
 -- What the promise of each entry point allows: for what the call was given, the record that it leaves and its answer. Definitions only.
 use mathlib.Core.Path.{_≡_}
 use mathlib.Core.List.{List}
+use Prim.Native.Nat.{ℕ}
 use lib.Ieee.{Float}
 use Rattle.ticks.specs.declared.Sample.{Sample}
 use Rattle.session.specs.declared.Session.{Session}
@@ -14,6 +15,9 @@ use Rattle.steps.specs.Steps.{openOf, openAnswer, predictOf, predictAnswer, cor
 use Rattle.epoch_steps.specs.declared.RoundAnswer.{RoundAnswer}
 use Rattle.epoch_steps.specs.Answers.{roundAnswer}
 use Rattle.epoch_steps.specs.Steps.{startOf, startAnswer, refineOf, refineAnswer}
+use Rattle.running.specs.declared.RunAnswer.{RunAnswer}
+use Rattle.running.specs.Runs.{runOf}
+use Rattle.running.specs.Bound.{WithinAllowance}
 
 abbrev pub OpenAllows : Request → Session → Opening → Type 0
 OpenAllows r left answer = (left ≡ openOf r .session) × (answer ≡ openOf r .answer) × (openingAnswer answer ≡ openAnswer r)
@@ -32,3 +36,7 @@ StartAllows r left answer = (left ≡ startOf r .session) × (answer ≡ startOf
 
 abbrev pub RefineAllows : Session → List Float → Session → RoundAnswer → Type 0
 RefineAllows s floats left answer = (left ≡ refineOf s floats .session) × (answer ≡ refineOf s floats .answer) × (roundAnswer answer ≡ refineAnswer s floats)
+
+abbrev pub RunAllows : Session → List Float → ℕ → Session → RunAnswer → Type 0
+RunAllows s floats wanted left answer =
+    (left ≡ runOf s floats wanted .session) × (answer ≡ runOf s floats wanted .answer) × WithinAllowance (s .limit) answer

@@ -28,7 +28,7 @@ use Rattle.demands.specs.ClosedForm.{Origin, Begins, origin, startOrigin, Stand
 use Rattle.demands.specs.Demands.{Demand1, Demand2, Formulas, Demand3, Counts, Leaves, Unsummed, UnsummedInTicks, position, velocity}
 use Rattle.demands.specs.Fractions.{ToldInTicks, InFractions}
 use Rattle.demands.specs.Theorems.{OfOpenings, OfStarts, Replaces}
-use Rattle.promised.specs.Promises.{OpenAllows, PredictAllows, CorrectAllows, WithdrawAllows, StartAllows, RefineAllows}
+use Rattle.promised.specs.Promises.{OpenAllows, PredictAllows, CorrectAllows, WithdrawAllows, StartAllows, RefineAllows, RunAllows}
 use Rattle.promised.specs.Runs.{Runs, Lives, Keeps}
 
 -- ---- any two results that a promise allows are the same
@@ -43,6 +43,7 @@ pub record OneResult : Type 0 where
   pub withdraws : (s : Session) → One (WithdrawAllows s)
   pub starts : (r : Request) → One (StartAllows r)
   pub refines : (s : Session) (floats : List Float) → One (RefineAllows s floats)
+  pub runs : (s : Session) (floats : List Float) (wanted : ℕ) → One (RunAllows s floats wanted)
 
 -- ---- six functions of which every result is allowed meet every demand
 

@@ -30,7 +30,7 @@ use Rattle.script.specs.Lines.{natural, two, integer, exactly, value, mo
 use Rattle.script.specs.Lines.{roundValues, pointText, ninePoints, roundLine}
 use Rattle.script.specs.Lines.{reasonWords, flagOf, differenceWords, whyLine}
 use Rattle.script.specs.Bytes.{byteDigits, digitsOf}
-use Rattle.script.specs.Lines.{saveLine, loadLine}
+use Rattle.script.specs.Lines.{saveLine, loadLine, runLine}
 use Rattle.script.specs.Lines.{motionWords, axisWords, numberOf, settingsWords, axesWords, recordLine, noCallLine}
 
 -- ---- words
@@ -151,6 +151,12 @@ save-short s = omega (arith, digits-long (imageOf s), length-recordBytes (standi
 pub load-short : (n : ℕ) → total (loadLine n) ≤ 26
 unfolding loadLine ascii
 load-short n = omega (arith, natural-short n)
+
+-- ---- a run
+
+pub run-short : (number points used : ℕ) → total (runLine number points used) ≤ 67
+unfolding runLine ascii
+run-short number points used = omega (arith, natural-short number, two-short points used)
 
 -- ---- a record
 

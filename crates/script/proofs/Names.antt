@@ -11,7 +11,7 @@ use lib.ListN.{length, drop, getD, drop-of-length-le}
 use lib.Seq.{drop-cons}
 use Rattle.integers.specs.Tests.{_and_}
 use Rattle.text.specs.Numbers.{ascii}
-use Rattle.script.specs.declared.calls.Name.the-variants.{Open, Predict, Correct, Withdraw, Fill, Start, Refine, Why, Save, Load, Nothing}
+use Rattle.script.specs.declared.calls.Name.the-variants.{Open, Predict, Correct, Withdraw, Fill, Start, Refine, Why, Save, Load, Run, Nothing}
 use Rattle.script.specs.Calls.{beginsWith, isWord, bareName, nameOf}
 
 by-byte : (t : Bool) (u : Bool) → u ≡ false → (t and u) ≡ false
@@ -112,6 +112,11 @@ module _ (line : List ℕ) where
                 unfolding nameOf
                 a-load e = rw (a, b, c, d, f, g, h, e)
 
-                pub bare : beginsWith line (ascii "load") ≡ false → bareName line ≡ nameOf line
-                unfolding nameOf
-                bare e = rw (a, b, c, d, f, g, h, e)
+                module _ (k : beginsWith line (ascii "load") ≡ false) where
+                  pub a-run : beginsWith line (ascii "run") ≡ true → Run ≡ nameOf line
+                  unfolding nameOf
+                  a-run e = rw (a, b, c, d, f, g, h, k, e)
+
+                  pub bare : beginsWith line (ascii "run") ≡ false → bareName line ≡ nameOf line
+                  unfolding nameOf
+                  bare e = rw (a, b, c, d, f, g, h, k, e)

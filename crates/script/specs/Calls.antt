@@ -9,7 +9,7 @@ use Rattle.image.specs.Reading.{readOf}
 use Rattle.text.specs.Numbers.{ascii}
 use Rattle.integers.specs.Tests.{_and_}
 use Rattle.script.specs.declared.calls.Name.{Name}
-use Rattle.script.specs.declared.calls.Name.the-variants.{Open, Predict, Correct, Withdraw, Fill, Start, Refine, Why, Save, Load, Nothing}
+use Rattle.script.specs.declared.calls.Name.the-variants.{Open, Predict, Correct, Withdraw, Fill, Start, Refine, Why, Save, Load, Run, Nothing}
 use Rattle.script.specs.declared.calls.Settings.{Settings}
 use Rattle.script.specs.declared.calls.Floats.{Floats}
 use Rattle.script.specs.declared.calls.OpenCall.{OpenCall}
@@ -53,7 +53,8 @@ nameOf line =
     (cond (beginsWith line (ascii "refine")) Refine
     (cond (beginsWith line (ascii "why")) Why
     (cond (beginsWith line (ascii "load")) Load
-    (bareName line))))))))
+    (cond (beginsWith line (ascii "run")) Run
+    (bareName line)))))))))
 
 -- ---- floats, up to the end of the line
 

@@ -116,6 +116,11 @@ saveLine s = ascii "save 0 " ∷ digitsOf (imageOf s) ∷ ascii "\n" ∷ []
 unfoldable pub loadLine : ℕ → List (List ℕ)
 loadLine number = ascii "load" ∷ flatten (natural number) ∷ ascii "\n" ∷ []
 
+-- ---- the answer of a run: the number, the points settled, the samples used
+
+unfoldable pub runLine : ℕ → ℕ → ℕ → List (List ℕ)
+runLine number points used = ascii "run" ∷ flatten (natural number) ∷ flatten (two points used) ∷ ascii "\n" ∷ []
+
 -- ---- a record: seven naturals, then three axes
 
 unfoldable pub motionWords : Motion → List (List ℕ)

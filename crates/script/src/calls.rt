@@ -24,6 +24,7 @@ pub enum Name {
     Why,
     Save,
     Load,
+    Run,
     Nothing,
 }
 
@@ -127,6 +128,9 @@ pub fn name_of(line: &[u8]) -> Name
     }
     if begins(line, b"load") {
         return Name::Load;
+    }
+    if begins(line, b"run") {
+        return Name::Run;
     }
     bare_name(line)
 }

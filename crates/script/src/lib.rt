@@ -5,6 +5,7 @@ mod explanation_lines;
 mod lines;
 mod pieces;
 mod round_lines;
+mod run_lines;
 mod saved_lines;
 mod words;
 
@@ -23,5 +24,8 @@ pub use lines::put_no_call;
 pub use lines::put_record;
 pub use pieces::read_session;
 pub use round_lines::put_round;
+pub use run_lines::RunCall;
+pub use run_lines::put_run;
+pub use run_lines::read_run;
 pub use saved_lines::put_load;
 pub use saved_lines::put_save;

@@ -38,6 +38,11 @@ use Rattle.epoch_steps.specs.Steps.{startOf, startAnswer, refineOf, refineAnswe
 use Rattle.epoch_steps.proofs.RoundAnswer
 use Rattle.epoch_steps.proofs.RoundAnswer.Laws as RoundAnswerLaws
 use Rattle.epoch_steps.proofs.AfterRound
+use Rattle.running.specs.Bound.{WithinAllowance}
+use Rattle.running.specs.Runs.{runOf}
+use Rattle.running.proofs.RunAnswer
+use Rattle.running.proofs.RunAnswer.Laws as RunAnswerLaws
+use Rattle.running.proofs.AfterRun
 
 -- ---- the record, and the arguments
 abbrev session : Struct
@@ -72,6 +77,9 @@ withdrawal = of-enum (record { type = Withdrawal.the-type; facts = record { laws
 abbrev round : Answer
 round = of-struct (record { type = RoundAnswer.the-type; facts = record { laws = RoundAnswerLaws.the-field-laws; plain = RoundAnswerLaws.the-field-plain; copy = RoundAnswerLaws.the-field-copy } })
 
+abbrev run : Answer
+run = of-struct (record { type = RunAnswer.the-type; facts = record { laws = RunAnswerLaws.the-field-laws; plain = RunAnswerLaws.the-field-plain; copy = RunAnswerLaws.the-field-copy } })
+
 -- ---- what the steps give
 abbrev opened : Outcome session opening
 opened = record { name = AfterOpen.the-type .name; D = AfterOpen.the-type .D; next = λ r. r .session; answer = λ r. r .answer; to-one = AfterOpen.the-type .to-one }
@@ -87,6 +95,9 @@ withdrawn = record { name = AfterWithdraw.the-type .name; D = AfterWithdraw.the-
 
 abbrev rounded : Outcome session round
 rounded = record { name = AfterRound.the-type .name; D = AfterRound.the-type .D; next = λ r. r .session; answer = λ r. r .answer; to-one = AfterRound.the-type .to-one }
+
+abbrev ran : Outcome session run
+ran = record { name = AfterRun.the-type .name; D = AfterRun.the-type .D; next = λ r. r .session; answer = λ r. r .answer; to-one = AfterRun.the-type .to-one }
 
 -- ---- the calls
 abbrev pub opens : Plan
@@ -159,4 +170,16 @@ refines = record {
   takes = the-record;
   rule = λ κs a. refineOf (a .0) (a .1 .0 .now);
   says = λ κs a r. roundAnswer r ≡ refineAnswer (a .0) (a .1 .0 .now);
+}
+
+abbrev pub runs : Plan
+runs = record {
+  lent = session;
+  answer = run;
+  outcome = ran;
+  lifetimes = 1;
+  args = slice 0 tt f64 ∷ count ∷ [];
+  takes = the-record;
+  rule = λ κs a. runOf (a .0) (a .1 .0 .now) (a .1 .1 .0);
+  says = λ κs a r. WithinAllowance (a .0 .limit) r;
 }

@@ -1,6 +1,7 @@
 // The calls of the library: each is lent the session's record, takes the step by value, and leaves the record that the step gives.
 use axis::Tolerances;
 use epoch_steps::RoundAnswer;
+use running::RunAnswer;
 use session::Session;
 use session::WholePoint;
 use steps::Correction;
@@ -11,6 +12,8 @@ use ticks::Sample;
 ghost use mathlib.Core.Path.{_≡_};
 ghost use Rattle.epoch_steps.specs.Answers.{roundAnswer};
 ghost use Rattle.epoch_steps.specs.Steps.{startOf, startAnswer, refineOf, refineAnswer};
+ghost use Rattle.running.specs.Bound.{WithinAllowance};
+ghost use Rattle.running.specs.Runs.{runOf};
 ghost use Rattle.session.specs.Requests.{request};
 ghost use Rattle.steps.specs.Answers.{openingAnswer, predictionAnswer, correctionAnswer, withdrawalAnswer};
 ghost use Rattle.steps.specs.Steps.{openOf, openAnswer, predictOf, predictAnswer, correctOf, correctAnswer, withdrawOf, withdrawAnswer};
@@ -89,6 +92,17 @@ pub fn refine(s: &mut Session, samples: &[f64]) -> RoundAnswer
         × (roundAnswer r ≡ refineAnswer (now (s .entry)) (now (samples .entry))) ⌝ }
 {
     let r = epoch_steps::refine_step(*s, samples);
+    *s = r.session;
+    r.answer
+}
+
+// A run: predictions, and corrections with the samples in turn, until so many points are settled, a call is refused, or no sample is left.
+pub fn run(s: &mut Session, samples: &[f64], wanted: u64) -> RunAnswer
+    ensures { λ r. ⌜ (now (s .exit) ≡ runOf (now (s .entry)) (now (samples .entry)) wanted .session)
+        × (r ≡ runOf (now (s .entry)) (now (samples .entry)) wanted .answer)
+        × WithinAllowance (now (s .entry) .limit) r ⌝ }
+{
+    let r = running::run_step(*s, samples, wanted);
     *s = r.session;
     r.answer
 }

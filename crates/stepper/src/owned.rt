@@ -1,6 +1,7 @@
 // The same calls for whoever owns the record: each lends its own copy to a call, and returns what the call leaves beside its answer.
 use axis::Tolerances;
 use epoch_steps::AfterRound;
+use running::AfterRun;
 use session::Session;
 use session::WholePoint;
 use steps::AfterCorrect;
@@ -10,6 +11,7 @@ use steps::AfterWithdraw;
 use ticks::Sample;
 ghost use mathlib.Core.Path.{_≡_};
 ghost use Rattle.epoch_steps.specs.Steps.{startOf, refineOf};
+ghost use Rattle.running.specs.Runs.{runOf};
 ghost use Rattle.session.specs.Requests.{request};
 ghost use Rattle.steps.specs.Steps.{openOf, predictOf, correctOf, withdrawOf};
 
@@ -73,4 +75,12 @@ pub fn refine(s: Session, samples: &[f64]) -> AfterRound
     let mut session = s;
     let answer = crate::refine(&mut session, samples);
     AfterRound { session, answer }
+}
+
+pub fn run(s: Session, samples: &[f64], wanted: u64) -> AfterRun
+    ensures { λ r. ⌜ r ≡ runOf s (now (samples .entry)) wanted ⌝ }
+{
+    let mut session = s;
+    let answer = crate::run(&mut session, samples, wanted);
+    AfterRun { session, answer }
 }

@@ -3,6 +3,7 @@
 pub mod Samples
 pub mod Refusals
 pub mod Results
+mod Corrected
 pub mod Answers
 pub mod Changes
 pub mod Faithful

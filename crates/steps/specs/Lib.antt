@@ -2,6 +2,7 @@
 pub mod Answers
 pub mod Opening
 pub mod Refusals
+pub mod Unagreed
 pub mod Steps
 pub mod Faithful
 pub mod Figures

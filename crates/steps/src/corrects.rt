@@ -1,6 +1,7 @@
 // Correct: the corrected point, which is accepted, awaits another correction, or is the last that the limit allows.
 use crate::AfterCorrect;
 use crate::Correction;
+use crate::ReportedPoint;
 use crate::checks::fault_number;
 use crate::reports::report_motion;
 use crate::reports::report_point;
@@ -17,17 +18,14 @@ use session::point_in_range;
 use session::points_agree;
 use session::settle;
 use ticks::Sample;
-use ticks::WholeSample;
 ghost use mathlib.Core.Path.{_≡_};
 ghost use mathlib.Core.Bool.{true};
-ghost use Rattle.rules.specs.Rules.{firstOf};
 ghost use Rattle.axis.specs.Agreement.{sizes};
-ghost use Rattle.ticks.specs.Samples.{WithinLimit};
 ghost use Rattle.session.specs.Holding.{awaiting};
-ghost use Rattle.session.specs.Moves.{correctedPoint, pointInRange};
 ghost use Rattle.session.specs.Ready.{Waiting, PlacedPoint};
-ghost use Rattle.steps.specs.Refusals.{agrees, largestChange, pointRules};
-ghost use Rattle.steps.specs.Steps.{correctBy, correctOf};
+ghost use Rattle.steps.specs.Refusals.{agrees, largestChange, isLast};
+ghost use Rattle.steps.specs.Steps.{correctOf};
+ghost use Rattle.steps.specs.Unagreed.{unagreed};
 
 fn is_agreed(s: Session, q: Point) -> bool
     requires { ⌜ Waiting s ⌝ }
@@ -54,22 +52,12 @@ fn refuse_correct(s: Session, number: u8) -> AfterCorrect
     }
 }
 
-// The point is in range: it is accepted, or the last correction was made, or another is awaited.
-fn judge(s: Session, w: WholeSample, q: Point) -> AfterCorrect
+// A point that does not agree: the last correction was made, or another is awaited.
+fn correct_again(s: Session, q: Point, point: ReportedPoint) -> AfterCorrect
     requires { ⌜ Waiting s ⌝ }
-    requires { ⌜ WithinLimit w ⌝ }
-    requires { ⌜ q ≡ correctedPoint s w ⌝ }
-    requires { ⌜ pointInRange q ≡ true ⌝ }
-    ensures { λ r. ⌜ r ≡ correctBy (firstOf (pointRules s q)) s w ⌝ }
+    requires { ⌜ PlacedPoint q ⌝ }
+    ensures { λ r. ⌜ r ≡ unagreed (isLast s) s q point ⌝ }
 {
-    let point = report_point(q);
-    if is_agreed(s, q) {
-        let session = accept(s, w);
-        return AfterCorrect {
-            session,
-            answer: Correction::Accepted(point),
-        };
-    }
     let made = s.corrections + 1;
     if s.limit <= made {
         let session = settle(s);
@@ -86,24 +74,14 @@ fn judge(s: Session, w: WholeSample, q: Point) -> AfterCorrect
     }
 }
 
-// An awaiting session and a sample without fault.
-fn correct_with(s: Session, w: WholeSample) -> AfterCorrect
-    requires { ⌜ awaiting s ≡ true ⌝ }
-    requires { ⌜ WithinLimit w ⌝ }
-    ensures { λ r. ⌜ r ≡ correctBy (firstOf (pointRules s (correctedPoint s w))) s w ⌝ }
-{
-    let q = corrected_point(s, w);
-    if !point_in_range(q) {
-        return refuse_correct(s, 6);
-    }
-    judge(s, w, q)
-}
-
-// A record that is known to await a correction.
-pub fn correct_awaiting(s: Session, a: Sample) -> AfterCorrect
-    requires { ⌜ awaiting s ≡ true ⌝ }
+// A record of which it is known whether it awaits a correction.
+fn correct_if(ready: bool, s: Session, a: Sample) -> AfterCorrect
+    requires { ⌜ ready ≡ awaiting s ⌝ }
     ensures { λ r. ⌜ r ≡ correctOf s a ⌝ }
 {
+    if !ready {
+        return refuse_correct(s, 7);
+    }
     let rounded = ticks::round_sample(a);
     let fault = rounded.fault;
     let number = fault_number(fault);
@@ -111,14 +89,31 @@ pub fn correct_awaiting(s: Session, a: Sample) -> AfterCorrect
         return refuse_correct(s, number);
     }
     let w = rounded.ticks;
-    correct_with(s, w)
+    let q = corrected_point(s, w);
+    if !point_in_range(q) {
+        return refuse_correct(s, 6);
+    }
+    let point = report_point(q);
+    if is_agreed(s, q) {
+        let session = accept(s, w);
+        return AfterCorrect {
+            session,
+            answer: Correction::Accepted(point),
+        };
+    }
+    correct_again(s, q, point)
+}
+
+// A record that is known to await a correction.
+pub fn correct_awaiting(s: Session, a: Sample) -> AfterCorrect
+    requires { ⌜ awaiting s ≡ true ⌝ }
+    ensures { λ r. ⌜ r ≡ correctOf s a ⌝ }
+{
+    correct_if(true, s, a)
 }
 
 pub fn correct_step(s: Session, a: Sample) -> AfterCorrect
     ensures { λ r. ⌜ r ≡ correctOf s a ⌝ }
 {
-    if !is_awaiting(s) {
-        return refuse_correct(s, 7);
-    }
-    correct_awaiting(s, a)
+    correct_if(is_awaiting(s), s, a)
 }

@@ -21,11 +21,14 @@ fn refuse_predict(s: Session, number: u8) -> AfterPredict
     }
 }
 
-// A record that is known to be settled.
-pub fn predict_settled(s: Session) -> AfterPredict
-    requires { ⌜ settled s ≡ true ⌝ }
+// A record of which it is known whether it is settled.
+fn predict_if(ready: bool, s: Session) -> AfterPredict
+    requires { ⌜ ready ≡ settled s ⌝ }
     ensures { λ r. ⌜ r ≡ predictOf s ⌝ }
 {
+    if !ready {
+        return refuse_predict(s, 7);
+    }
     if 1_000_000 <= s.accepted {
         return refuse_predict(s, 9);
     }
@@ -41,11 +44,16 @@ pub fn predict_settled(s: Session) -> AfterPredict
     }
 }
 
+// A record that is known to be settled.
+pub fn predict_settled(s: Session) -> AfterPredict
+    requires { ⌜ settled s ≡ true ⌝ }
+    ensures { λ r. ⌜ r ≡ predictOf s ⌝ }
+{
+    predict_if(true, s)
+}
+
 pub fn predict_step(s: Session) -> AfterPredict
     ensures { λ r. ⌜ r ≡ predictOf s ⌝ }
 {
-    if !is_settled(s) {
-        return refuse_predict(s, 7);
-    }
-    predict_settled(s)
+    predict_if(is_settled(s), s)
 }

@@ -3,7 +3,7 @@ use mathlib.Core.Path.{sym, _∙_}
 use borrow.Author.Needs.{needs}
 use borrow.Author.Tests.{lt-ltb, le-ltb}
 use Rattle.text.specs.Numbers.{ascii}
-use Rattle.script.proofs.Names.{too-long, an-open, a-correct, a-fill, a-start, a-refine, a-why, a-load, bare}
+use Rattle.script.proofs.Names.{too-long, an-open, a-correct, a-fill, a-start, a-refine, a-why, a-load, a-run, bare}
 use Rattle.script.proofs.calls.name_of.Statement.{statement}
 use Rattle.script.proofs.calls.name_of.Tie as tie
 
@@ -108,7 +108,30 @@ returns-8 c =
 returns-9 : tie.Need-returns-9
 unfolding ascii
 returns-9 c =
-    let d8 = c .before in
+    let d8 = c .before .before .before in
+    let d7 = d8 .before .before .before in
+    let d6 = d7 .before .before .before in
+    let d5 = d6 .before .before .before in
+    let d4 = d5 .before .before .before in
+    let d3 = d4 .before .before .before in
+    let d2 = d3 .before .before .before in
+    let d1 = d2 .before .before .before in
+    a-run _
+    (le-ltb _ _ (d1 .if1 .left))
+    (sym (d2 .before .begins .ensures) ∙ d2 .if2 .left)
+    (sym (d3 .before .begins2 .ensures) ∙ d3 .if3 .left)
+    (sym (d4 .before .begins3 .ensures) ∙ d4 .if4 .left)
+    (sym (d5 .before .begins4 .ensures) ∙ d5 .if5 .left)
+    (sym (d6 .before .begins5 .ensures) ∙ d6 .if6 .left)
+    (sym (d7 .before .begins6 .ensures) ∙ d7 .if7 .left)
+    (sym (d8 .before .begins7 .ensures) ∙ d8 .if8 .left)
+    (sym (c .before .begins8 .ensures) ∙ c .if9 .taken)
+
+returns-10 : tie.Need-returns-10
+unfolding ascii
+returns-10 c =
+    let d9 = c .before in
+    let d8 = d9 .before .before .before in
     let d7 = d8 .before .before .before in
     let d6 = d7 .before .before .before in
     let d5 = d6 .before .before .before in
@@ -125,6 +148,7 @@ returns-9 c =
     (sym (d6 .before .begins5 .ensures) ∙ d6 .if6 .left)
     (sym (d7 .before .begins6 .ensures) ∙ d7 .if7 .left)
     (sym (d8 .before .begins7 .ensures) ∙ d8 .if8 .left)
+    (sym (d9 .before .begins8 .ensures) ∙ d9 .if9 .left)
 
 pub name-of-spec : {M : Type 1} → statement M
 name-of-spec =
@@ -152,5 +176,8 @@ name-of-spec =
     (λ c. search needs)
     (λ c κs. search needs)
     returns-8
+    (λ c. search needs)
     (λ c κs. search needs)
-    returns-9)
+    returns-9
+    (λ c κs. search needs)
+    returns-10)
