@@ -1,1 +1,2 @@
 // Theorems about tracks that add; no code.
+#![tactic(auto)]

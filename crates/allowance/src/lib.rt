@@ -1,1 +1,2 @@
 // Theorems about runs; no code.
+#![tactic(auto)]

@@ -1,4 +1,6 @@
 // Every answer in the paper's shape: its number, its kind and its values, zeros where it carries nothing.
+#![tactic(auto)]
+
 ghost use Rattle.std.specs.Prelude.{◌≡◌};
 ghost use Rattle.steps.specs.Answers.{answer, no_change, refused, opening_answer, prediction_answer, correction_answer, withdrawal_answer};
 ghost use Rattle.epoch_steps.specs.Answers.{values, round_answer};

@@ -1,4 +1,6 @@
 // One axis of a session: its sums and samples, the points that they give, and whether they keep the rules.
+#![tactic(auto)]
+
 use exact::Exact;
 
 mod changes;
@@ -17,21 +19,21 @@ pub use holding::{axis_holds, places_hold};
 pub use parts::older_motion;
 
 // A position and its velocity.
-#[derive(Drop)]
+#[derive(Clone, Copy)]
 pub struct Motion {
     pub position: Exact,
     pub velocity: Exact,
 }
 
 // How far a position, in ticks, and a velocity, in ticks per step, may move and still agree.
-#[derive(Drop)]
+#[derive(Clone, Copy)]
 pub struct Tolerances {
     pub position: u64,
     pub velocity: u64,
 }
 
 // S1 and S2 at the last accepted point, what the older samples give to the next corrected one, the samples, newest first, and the last estimate.
-#[derive(Drop)]
+#[derive(Clone, Copy)]
 pub struct Axis {
     pub first: Exact,
     pub second: Exact,

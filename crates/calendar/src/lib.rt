@@ -1,4 +1,6 @@
 // Times of the years 1 to 9999: moments, their whole seconds since 0001-01-01T00:00:00, and their text YYYY-MM-DDThh:mm:ss.
+#![tactic(auto)]
+
 mod counting;
 mod finding;
 mod reader;
@@ -9,7 +11,7 @@ pub use finding::moment_of;
 pub use reader::{read_time, same};
 pub use writer::put_time;
 
-#[derive(Drop)]
+#[derive(Clone, Copy)]
 pub struct Moment {
     pub year: u64,
     pub month: u64,
@@ -20,7 +22,7 @@ pub struct Moment {
 }
 
 // What a text is: a time in whole seconds, or none.
-#[derive(Drop)]
+#[derive(Clone, Copy)]
 pub enum Reading {
     Time(u64),
     Nothing,

@@ -1,11 +1,13 @@
 // Samples for programs that step far: drawn by a fixed rule, so that every run has the same.
+#![tactic(auto)]
+
 ghost use Rattle.std.specs.Prelude.{◌≡◌};
 ghost use Rattle.drawing.specs.Draws.{next_of, centred_of, drawn_of, sample_of};
 
 use ticks::Sample;
 
 // Whole ticks on the three axes, and the number that the next draw begins with.
-#[derive(Drop)]
+#[derive(Clone, Copy)]
 pub struct Draw {
     pub seed: u64,
     pub x: i64,

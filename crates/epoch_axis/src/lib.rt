@@ -1,4 +1,6 @@
 // One axis that is started from an epoch in its middle: the sums that the epoch fixes, and the points before the newest.
+#![tactic(auto)]
+
 ghost use Rattle.std.specs.Prelude.{◌≡◌, true, ◌≤◌, ◌<◌, ◌^◌};
 ghost use Rattle.integers.specs.Differences.{at};
 ghost use Rattle.exact.specs.Numerator.{Bounded};
@@ -11,7 +13,7 @@ use axis::{Axis, Motion, axis_with, left_of, moved, next_first, no_motion, older
 use exact::Exact;
 
 // S1 at a point, and S2 at the point before it.
-#[derive(Drop)]
+#[derive(Clone, Copy)]
 pub struct Sums {
     pub first: Exact,
     pub before: Exact,

@@ -1,4 +1,6 @@
 // The corrector's series at points before the newest, as sums over the samples, which are newest first.
+#![tactic(auto)]
+
 ghost use Rattle.std.specs.Prelude.{◌≡◌, true, ◌<◌};
 ghost use Rattle.integers.specs.Differences.{at, by_differences};
 ghost use Rattle.coefficients.specs.Formulas.{Small};

@@ -1,4 +1,6 @@
 // A start from an epoch by value: a first round and later ones. Each gives the record that it leaves, beside the answer.
+#![tactic(auto)]
+
 use session::Session;
 use steps::{ReportedMotion, ReportedPoint};
 
@@ -10,7 +12,7 @@ pub use refines::refine_step;
 pub use starts::start_step;
 
 // More is asked for, with the largest change of each kind; the session is open; or a refusal's number.
-#[derive(Drop)]
+#[derive(Clone, Copy)]
 pub enum Outcome {
     More(ReportedMotion),
     Opened,
@@ -18,7 +20,7 @@ pub enum Outcome {
 }
 
 // The outcome, and the points of the round, oldest first.
-#[derive(Drop)]
+#[derive(Clone, Copy)]
 pub struct RoundAnswer {
     pub outcome: Outcome,
     pub track: [ReportedPoint; 9],
@@ -26,7 +28,7 @@ pub struct RoundAnswer {
 
 // A round's answer in the paper's shape: its number, its kind (2 more is asked for, 3 the session is open, 0 refused), the largest change of each kind
 // and the points, zeros where it carries nothing.
-#[derive(Drop)]
+#[derive(Clone, Copy)]
 pub struct RoundValues {
     pub number: u8,
     pub kind: u8,
@@ -34,7 +36,7 @@ pub struct RoundValues {
     pub track: [ReportedPoint; 9],
 }
 
-#[derive(Drop)]
+#[derive(Clone, Copy)]
 pub struct AfterRound {
     pub session: Session,
     pub answer: RoundAnswer,

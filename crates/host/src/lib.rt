@@ -1,4 +1,6 @@
 // The calls from C: each is lent the bytes of a session's image and the bytes of its answer, and returns the number.
+#![tactic(auto)]
+
 ghost use Rattle.std.specs.Prelude.{◌≡◌};
 ghost use Rattle.host.specs.Calls.{Leaves, host_request, host_open, host_predict, host_correct, host_withdraw};
 

@@ -1,1 +1,2 @@
 // Theorems about the calls from C; no code.
+#![tactic(auto)]

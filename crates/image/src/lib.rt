@@ -1,4 +1,6 @@
 // A saved session: a table of contents and four bodies, 656 bytes in words of eight, the lowest byte first.
+#![tactic(auto)]
+
 use session::Session;
 
 mod floats;
@@ -14,7 +16,7 @@ pub use words::{put_u64, word_at};
 pub use writing::{put_exact, put_record};
 
 // 0 and the session, or 14 and the closed one.
-#[derive(Drop)]
+#[derive(Clone, Copy)]
 pub struct Loaded {
     pub number: u8,
     pub session: Session,

@@ -4,7 +4,7 @@ use steps::{Correction, Prediction, Withdrawal};
 use ticks::Sample;
 
 // Answers of each kind, and how often an answer was another than it should be or a formula did not hold.
-#[derive(Drop)]
+#[derive(Clone, Copy)]
 pub(crate) struct Seen {
     pub(crate) accepted: u64,
     pub(crate) again: u64,
@@ -12,13 +12,13 @@ pub(crate) struct Seen {
     pub(crate) failed: u64,
 }
 
-#[derive(Drop)]
+#[derive(Clone, Copy)]
 pub(crate) struct Host {
     pub(crate) session: Session,
     pub(crate) seen: Seen,
 }
 
-#[derive(Drop)]
+#[derive(Clone, Copy)]
 pub(crate) struct Corrected {
     pub(crate) host: Host,
     pub(crate) answer: Correction,

@@ -1,7 +1,7 @@
 // Signed numbers that cannot overflow: one that leaves its bounds is marked bad, and so is all that is made of it.
 ghost use Rattle.std.specs.Prelude.{◌≡◌, ◌^◌, nat_le, unsigned_abs};
 
-#[derive(Drop)]
+#[derive(Clone, Copy)]
 pub(crate) struct Checked {
     pub(crate) value: i64,
     pub(crate) good: bool,

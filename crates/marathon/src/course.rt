@@ -9,7 +9,7 @@ use session::WholePoint;
 use steps::{AfterOpen, Correction, Opening, ReportedPoint};
 
 // The session with what was answered so far, the number that the next draw begins with, and the axes.
-#[derive(Drop)]
+#[derive(Clone, Copy)]
 pub(crate) struct Course {
     pub(crate) host: Host,
     pub(crate) seed: u64,
@@ -18,7 +18,7 @@ pub(crate) struct Course {
     pub(crate) z: Track,
 }
 
-#[derive(Drop)]
+#[derive(Clone, Copy)]
 pub(crate) struct Samples {
     pub(crate) floats: [f64; 27],
     pub(crate) seed: u64,

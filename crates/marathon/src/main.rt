@@ -1,5 +1,7 @@
 // Steps a session of nine points a million times, with second corrections and withdrawals on the way, and checks at every
 // accepted point that the formulas without sums hold on what the answers carried.
+#![tactic(auto)]
+
 mod calls;
 mod checked;
 mod console;

@@ -5,21 +5,21 @@ use axis::Motion;
 use exact::Exact;
 use steps::ReportedMotion;
 
-#[derive(Drop)]
+#[derive(Clone, Copy)]
 pub(crate) struct Track {
     pub(crate) differences: [i64; 11],
     pub(crate) last: Motion,
     pub(crate) before: Motion,
 }
 
-#[derive(Drop)]
+#[derive(Clone, Copy)]
 pub(crate) struct Differences {
     pub(crate) values: [i64; 11],
     pub(crate) good: bool,
 }
 
 // An axis after one point more, and whether the formulas held there.
-#[derive(Drop)]
+#[derive(Clone, Copy)]
 pub(crate) struct Followed {
     pub(crate) track: Track,
     pub(crate) good: bool,

@@ -1,4 +1,6 @@
 // Orbit ephemeris messages, written into a lent room.
+#![tactic(auto)]
+
 mod forms;
 mod lines;
 mod measures;
@@ -11,14 +13,14 @@ pub use lines::put_time_entry;
 pub use writer::{write_edition, write_message};
 
 // The edition of the standard that a message is of: version 2.0 or version 3.0.
-#[derive(Drop)]
+#[derive(Clone, Copy)]
 pub enum Edition {
     Two,
     Three,
 }
 
 // The number that refuses, or 0, and how many bytes were written.
-#[derive(Drop)]
+#[derive(Clone, Copy)]
 pub struct Written {
     pub number: u8,
     pub length: usize,

@@ -1,4 +1,6 @@
 // Requests for ephemeris messages, read from a text of lines.
+#![tactic(auto)]
+
 mod lines;
 mod points;
 mod requests;
@@ -6,14 +8,14 @@ mod requests;
 pub use requests::{read_request, read_version};
 
 // Where a line stands, and whether all lines before it are as they have to be.
-#[derive(Drop)]
+#[derive(Clone, Copy)]
 pub struct Place {
     pub at: usize,
     pub good: bool,
 }
 
 // What follows the word of a line: its first place and the place past it; and where the next line stands.
-#[derive(Drop)]
+#[derive(Clone, Copy)]
 pub struct Rest {
     pub from: usize,
     pub end: usize,
@@ -21,7 +23,7 @@ pub struct Rest {
 }
 
 // What the first seven lines give.
-#[derive(Drop)]
+#[derive(Clone, Copy)]
 pub struct Names {
     pub created: Rest,
     pub originator: Rest,
@@ -33,7 +35,7 @@ pub struct Names {
 }
 
 // What the lines between the names and the points give, and where the points stand. Where no room is given it is 0.
-#[derive(Drop)]
+#[derive(Clone, Copy)]
 pub struct Settings {
     pub tick: u64,
     pub step: u64,
@@ -43,7 +45,7 @@ pub struct Settings {
 }
 
 // A text is a request, or it is none by the line of a number, or it has more points than there is room for.
-#[derive(Drop)]
+#[derive(Clone, Copy)]
 pub enum Outcome {
     Request,
     NoRequest(u64),
@@ -51,7 +53,7 @@ pub enum Outcome {
 }
 
 // What a text asks for; so many numbers are those of its points.
-#[derive(Drop)]
+#[derive(Clone, Copy)]
 pub struct Asked {
     pub outcome: Outcome,
     pub names: Names,

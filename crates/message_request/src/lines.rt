@@ -6,7 +6,7 @@ use crate::{Place, Rest};
 use text::{Unsigned, read_decimal};
 
 // The number of a line, and where the next line stands.
-#[derive(Drop)]
+#[derive(Clone, Copy)]
 pub struct Natural {
     pub value: u64,
     pub next: Place,

@@ -8,21 +8,21 @@ use crate::{Outcome, Place};
 use text::{Signed, read_signed};
 
 // A number, and the place past it; 0 where there is none.
-#[derive(Drop)]
+#[derive(Clone, Copy)]
 pub struct Whole {
     pub value: i64,
     pub end: usize,
 }
 
 // Twelve numbers, and the place past them; 0 where one of them is not there.
-#[derive(Drop)]
+#[derive(Clone, Copy)]
 pub struct Wholes {
     pub values: [i64; 12],
     pub end: usize,
 }
 
 // How many numbers were kept, and how the text ended.
-#[derive(Drop)]
+#[derive(Clone, Copy)]
 pub struct Points {
     pub count: usize,
     pub outcome: Outcome,

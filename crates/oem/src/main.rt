@@ -1,5 +1,7 @@
 // Ephemeris messages. Standard input has a request for `oem write`, which writes the message that it asks for, and a message for `oem read`,
 // which prints what it says, and for `oem mend`, which mends it.
+#![tactic(auto)]
+
 mod answers;
 mod mending;
 mod output;

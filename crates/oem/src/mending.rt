@@ -28,7 +28,7 @@ fn list_changes(list: &mut [u8], done: Mended, changes: &[u64]) -> usize
 }
 
 // How many bytes there are of the mended message, and of the list.
-#[derive(Drop)]
+#[derive(Clone, Copy)]
 pub(crate) struct Done {
     pub(crate) written: usize,
     pub(crate) listed: usize,

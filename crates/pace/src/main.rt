@@ -1,5 +1,7 @@
 // Takes STEPS steps of a session of P points, each a prediction and an accepted correction, and prints a checksum of all reports:
 // a program to measure.
+#![tactic(auto)]
+
 mod arguments;
 mod run;
 mod sums;

@@ -9,7 +9,7 @@ use steps::{Correction, Opening, Prediction};
 use ticks::Sample;
 
 // The session, the number that the next draw begins with, the checksum, and whether an answer was refused.
-#[derive(Drop)]
+#[derive(Clone, Copy)]
 pub(crate) struct Run {
     pub(crate) session: Session,
     pub(crate) seed: u64,

@@ -9,7 +9,7 @@ use session::Session;
 use steps::Answer;
 
 // The record after a line, and the place past its answer; a line that is no call has none. The record is written after it, or not.
-#[derive(Drop)]
+#[derive(Clone, Copy)]
 pub(crate) struct Answered {
     pub(crate) session: Session,
     pub(crate) end: usize,

@@ -7,7 +7,7 @@ use crate::explaining::explain_line;
 use session::Session;
 
 // How far a script is: the record, the lines so far, the bytes of input used, the bytes of output to be written, and whether the script is over.
-#[derive(Drop)]
+#[derive(Clone, Copy)]
 pub(crate) struct Progress {
     pub(crate) session: Session,
     pub(crate) count: u64,
@@ -56,7 +56,7 @@ fn make_room(out: &[u8], written: usize) -> Room
     Room { at: 0, taken }
 }
 
-#[derive(Drop)]
+#[derive(Clone, Copy)]
 struct Room {
     at: usize,
     taken: bool,

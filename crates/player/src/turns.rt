@@ -30,7 +30,7 @@ fn keep(input: &mut [u8], from: usize, end: usize) -> usize
 }
 
 // Where a script is between two pieces: the record, the lines so far, the bytes held, and whether it is over.
-#[derive(Drop)]
+#[derive(Clone, Copy)]
 struct Place {
     session: Session,
     count: u64,

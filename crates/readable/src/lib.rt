@@ -1,1 +1,2 @@
 // Theorems about messages that are read and mended; no code.
+#![tactic(auto)]

@@ -1,4 +1,6 @@
 // Why a correction would be answered as it is: the first value that is the cause, and at a point's first correction the newest sample's p-th differences.
+#![tactic(auto)]
+
 use exact::Reported;
 
 mod axes;
@@ -11,7 +13,7 @@ pub use explains::explain;
 
 // Which value is the cause: 0 for none, 1 to 6 for the positions x, y, z and then the velocities x, y, z, and with 4, 13 and 5 the sample's axis 1 to 3; its
 // change from the last estimate, beside its report; and the tolerance of its kind. Both are zero where no change was compared.
-#[derive(Drop)]
+#[derive(Clone, Copy)]
 pub struct Reason {
     pub value: u8,
     pub change: Reported,
@@ -19,7 +21,7 @@ pub struct Reason {
 }
 
 // The newest sample's p-th difference on each axis, and zeros where they are not given.
-#[derive(Drop)]
+#[derive(Clone, Copy)]
 pub struct Differences {
     pub given: bool,
     pub x: i64,
@@ -28,7 +30,7 @@ pub struct Differences {
 }
 
 // What the correction would answer, by its number and kind, and why.
-#[derive(Drop)]
+#[derive(Clone, Copy)]
 pub struct Explanation {
     pub number: u8,
     pub kind: u8,

@@ -13,21 +13,21 @@ use decimal::{has_few_digits, read_fixed};
 use text::Signed;
 
 // A number, and the place past it; 0 where there is none.
-#[derive(Drop)]
+#[derive(Clone, Copy)]
 pub struct Field {
     pub value: i64,
     pub end: usize,
 }
 
 // Six numbers, and the place past them; 0 where one of them is not there.
-#[derive(Drop)]
+#[derive(Clone, Copy)]
 pub struct Fields {
     pub values: [i64; 6],
     pub end: usize,
 }
 
 // Whether a line can be read as a data line, and what it says.
-#[derive(Drop)]
+#[derive(Clone, Copy)]
 pub struct Datum {
     pub good: bool,
     pub seconds: u64,
@@ -35,7 +35,7 @@ pub struct Datum {
 }
 
 // Whether there are data lines and all can be read; how many come before one that cannot, and the times of the first and the last of them.
-#[derive(Drop)]
+#[derive(Clone, Copy)]
 pub struct Scanned {
     pub all: bool,
     pub count: usize,

@@ -13,7 +13,7 @@ use crate::lines::past_line;
 use message::Edition;
 
 // Whether every line was as it has to be; where the next one stands, and its number.
-#[derive(Drop)]
+#[derive(Clone, Copy)]
 pub struct Spot {
     pub good: bool,
     pub at: usize,

@@ -12,7 +12,7 @@ use calendar::{Reading, read_time};
 use message::Edition;
 
 // The line at which reading stops, or 0 with the place of the data and the count of points.
-#[derive(Drop)]
+#[derive(Clone, Copy)]
 pub struct Judged {
     pub line: usize,
     pub at: usize,

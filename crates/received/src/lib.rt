@@ -1,4 +1,6 @@
 // Orbit ephemeris messages read from a text, and mended.
+#![tactic(auto)]
+
 mod data;
 mod forms;
 mod heads;
@@ -14,7 +16,7 @@ pub use mending::mend_message;
 pub use reader::{read_either, read_message};
 
 // Where a value stands in the text.
-#[derive(Drop)]
+#[derive(Clone, Copy)]
 pub struct Place {
     pub start: usize,
     pub length: usize,
@@ -22,7 +24,7 @@ pub struct Place {
 
 // The number that refuses, or 0. With 15 the line at which reading stops; with 0 how many points there are, and where the names and the time of
 // creation stand.
-#[derive(Drop)]
+#[derive(Clone, Copy)]
 pub struct Received {
     pub number: u8,
     pub line: usize,
@@ -36,7 +38,7 @@ pub struct Received {
 }
 
 // The number that refuses, or 0, and how many bytes and how many changes were written.
-#[derive(Drop)]
+#[derive(Clone, Copy)]
 pub struct Mended {
     pub number: u8,
     pub length: usize,

@@ -10,7 +10,7 @@ use message::Edition;
 
 // Whether it can be mended; the places of START_TIME, META_STOP and the data, the numbers of START_TIME and of the first data line,
 // the times of the first and the last line kept and whether they are said, and how many bytes are kept and how many lines dropped.
-#[derive(Drop)]
+#[derive(Clone, Copy)]
 pub struct Plan {
     pub good: bool,
     pub start: usize,

@@ -8,7 +8,7 @@ use crate::data::{is_accepted, read_datum};
 use crate::lines::past_line;
 
 // The place past a data line; whether it is kept, and its time.
-#[derive(Drop)]
+#[derive(Clone, Copy)]
 pub struct Step {
     pub end: usize,
     pub good: bool,
@@ -16,7 +16,7 @@ pub struct Step {
 }
 
 // How many data lines are kept, with how many bytes, and how many are dropped; the times of the first and the last kept.
-#[derive(Drop)]
+#[derive(Clone, Copy)]
 pub struct Surveyed {
     pub kept: usize,
     pub bytes: usize,

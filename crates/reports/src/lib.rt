@@ -1,4 +1,6 @@
 // What was read from a message, and what was changed in one, as text in a lent buffer.
+#![tactic(auto)]
+
 mod changes;
 mod list;
 mod names;

@@ -12,7 +12,7 @@ use steps::{Correction, Prediction, correct_awaiting, predict_settled};
 use ticks::Sample;
 
 // A session before a sample is read, and 0 or the number that refuses its prediction.
-#[derive(Drop)]
+#[derive(Clone, Copy)]
 pub struct Readied {
     pub session: Session,
     pub number: u8,

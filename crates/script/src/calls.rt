@@ -10,7 +10,7 @@ use image::float_of;
 use session::{Session, WholePoint};
 use ticks::Sample;
 
-#[derive(Drop)]
+#[derive(Clone, Copy)]
 pub enum Name {
     Open,
     Predict,
@@ -26,7 +26,7 @@ pub enum Name {
     Nothing,
 }
 
-#[derive(Drop)]
+#[derive(Clone, Copy)]
 pub struct Floats {
     pub values: [f64; 64],
     pub count: usize,
@@ -34,7 +34,7 @@ pub struct Floats {
 }
 
 // What an opening has before its floats.
-#[derive(Drop)]
+#[derive(Clone, Copy)]
 pub struct Settings {
     pub points: usize,
     pub tolerances: Tolerances,
@@ -43,20 +43,20 @@ pub struct Settings {
     pub end: usize,
 }
 
-#[derive(Drop)]
+#[derive(Clone, Copy)]
 pub struct OpenCall {
     pub settings: Settings,
     pub floats: Floats,
 }
 
-#[derive(Drop)]
+#[derive(Clone, Copy)]
 pub struct ReadSample {
     pub value: Sample,
     pub end: usize,
 }
 
 // The number 0 and a session, or 14.
-#[derive(Drop)]
+#[derive(Clone, Copy)]
 pub struct LoadCall {
     pub number: u8,
     pub session: Session,

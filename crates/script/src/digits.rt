@@ -8,14 +8,14 @@ ghost use Rattle.script.specs.Bytes.{byte_digits, digits_of, byte_at, bytes_at};
 use text::put;
 
 // A byte that is not there ends at place 0.
-#[derive(Drop)]
+#[derive(Clone, Copy)]
 pub(crate) struct ReadByte {
     value: u8,
     end: usize,
 }
 
 // The first of an array, and the place past them.
-#[derive(Drop)]
+#[derive(Clone, Copy)]
 pub(crate) struct ReadBytes {
     pub(crate) values: [u8; 2048],
     pub(crate) count: usize,

@@ -1,4 +1,6 @@
 // Scripts of calls as text: a line read as a call, and an answer, an explanation, an image and a record written as lines.
+#![tactic(auto)]
+
 mod calls;
 mod digits;
 mod explanation_lines;

@@ -7,7 +7,7 @@ use axis::{Axis, Motion, Tolerances};
 use exact::Exact;
 use session::{Session, State};
 
-#[derive(Drop)]
+#[derive(Clone, Copy)]
 pub struct Three {
     pub a: i64,
     pub b: i64,
@@ -15,38 +15,38 @@ pub struct Three {
     pub end: usize,
 }
 
-#[derive(Drop)]
+#[derive(Clone, Copy)]
 pub struct ReadExact {
     pub value: Exact,
     pub end: usize,
 }
 
-#[derive(Drop)]
+#[derive(Clone, Copy)]
 pub struct ReadMotion {
     pub value: Motion,
     pub end: usize,
 }
 
-#[derive(Drop)]
+#[derive(Clone, Copy)]
 pub struct ReadSamples {
     pub samples: [i64; 9],
     pub end: usize,
 }
 
-#[derive(Drop)]
+#[derive(Clone, Copy)]
 pub struct ReadAxis {
     pub axis: Axis,
     pub end: usize,
 }
 
-#[derive(Drop)]
+#[derive(Clone, Copy)]
 pub struct ReadTolerances {
     pub value: Tolerances,
     pub end: usize,
 }
 
 // The fields of a record before its axes.
-#[derive(Drop)]
+#[derive(Clone, Copy)]
 pub struct Head {
     pub state: State,
     pub points: usize,
@@ -57,7 +57,7 @@ pub struct Head {
     pub end: usize,
 }
 
-#[derive(Drop)]
+#[derive(Clone, Copy)]
 pub struct ReadSession {
     pub session: Session,
     pub end: usize,

@@ -11,7 +11,7 @@ use image::float_of;
 use text::{put, put_word};
 
 // The points wanted, and the floats of the samples.
-#[derive(Drop)]
+#[derive(Clone, Copy)]
 pub struct RunCall {
     pub wanted: u64,
     pub values: [f64; 192],

@@ -4,13 +4,13 @@ ghost use Rattle.script.specs.Words.{natural_of, integer_of, past_space, natural
 
 use text::{Signed, Unsigned};
 
-#[derive(Drop)]
+#[derive(Clone, Copy)]
 pub struct Natural {
     pub value: u64,
     pub end: usize,
 }
 
-#[derive(Drop)]
+#[derive(Clone, Copy)]
 pub struct Integer {
     pub value: i64,
     pub end: usize,

@@ -11,14 +11,14 @@ use exact::Exact;
 use text::{put, put_decimal};
 
 // Whole ticks, and what is left over D.
-#[derive(Drop)]
+#[derive(Clone, Copy)]
 pub struct Size {
     pub whole: u64,
     pub rest: u64,
 }
 
 // The last digits of a number, so many.
-#[derive(Drop)]
+#[derive(Clone, Copy)]
 pub struct Digits {
     pub count: usize,
     pub number: u64,

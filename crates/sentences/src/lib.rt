@@ -1,4 +1,6 @@
 // Why a correction was not accepted, as a sentence written into a lent buffer.
+#![tactic(auto)]
+
 mod decimals;
 mod sentences;
 mod words;

@@ -1,4 +1,6 @@
 // The record of a session: when it counts as open, and what the calls make of it.
+#![tactic(auto)]
+
 use axis::{Axis, Motion, Tolerances};
 
 mod holding;
@@ -16,7 +18,7 @@ pub use numbers::{points_hold, settings_hold};
 pub use points::{point_change, point_in_range, points_agree};
 pub use whole::exact_point;
 
-#[derive(Drop)]
+#[derive(Clone, Copy)]
 pub enum State {
     Closed,
     Settled,
@@ -24,7 +26,7 @@ pub enum State {
     Starting,
 }
 
-#[derive(Drop)]
+#[derive(Clone, Copy)]
 pub struct Session {
     pub state: State,
     pub points: usize,
@@ -38,7 +40,7 @@ pub struct Session {
 }
 
 // A position and a velocity on each axis.
-#[derive(Drop)]
+#[derive(Clone, Copy)]
 pub struct Point {
     pub x: Motion,
     pub y: Motion,
@@ -46,7 +48,7 @@ pub struct Point {
 }
 
 // A position and a velocity on each axis, in whole ticks: what a host gives.
-#[derive(Drop)]
+#[derive(Clone, Copy)]
 pub struct WholePoint {
     pub x: i64,
     pub y: i64,

@@ -1,4 +1,6 @@
 // The calls of the library: each is lent the session's record, takes the step by value, and leaves the record that the step gives.
+#![tactic(auto)]
+
 ghost use Rattle.std.specs.Prelude.{◌≡◌};
 ghost use Rattle.epoch_steps.specs.Answers.{round_answer};
 ghost use Rattle.epoch_steps.specs.Steps.{start_of, start_answer, refine_of, refine_answer};
