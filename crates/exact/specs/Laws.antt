@@ -1,5 +1,5 @@
 -- Every multiple of 1 / D is one exact value: `exact_of` and `numerator` undo each other. How a result is shown to be an exact value, and how two are compared.
-use Rattle.std.specs.Prelude.{◌≡◌, refl, Bool, true, false, cond, ℕ, max, ◌+◌, ◌*◌, ◌<◌, leb, ℤ, pos, ◌+ℤ◌, ◌*ℤ◌}
+use Rattle.std.specs.Prelude.{◌≡◌, refl, Bool, true, false, cond, ℕ, max, ◌+◌, ◌*◌, ◌<◌, leb, ℤ, pos, ◌*ℤ◌}
 use Rattle.std.proofs.Common.{sym, ap, ap₂, ◌∙◌, arith, lit<, eq-eqb, eqb-true, leb-true, leb-false}
 use Rattle.std.proofs.Math.IntN.{+ℤ_idr}
 use Rattle.std.specs.Int.Signed.{le_z, lt_z}
