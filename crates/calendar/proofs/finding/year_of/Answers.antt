@@ -2,11 +2,9 @@
 use mathlib.Core.Path.{◌≡◌, refl, sym, ◌∙◌, ap}
 use Prim.Native.Nat.{ℕ, ◌+◌, ◌*◌, ◌/◌, ◌≤◌, ◌<◌}
 use native.Mathlib.Omega.{arith}
-use borrow.Author.Rules.{rules}
 use Rattle.calendar.specs.Calendar.{days_before_year, most_days, year_of}
 use Rattle.calendar.specs.Years.{mean-low, mean-high, year-is}
-use Rattle.calendar.proofs.finding.year_of.Statement.{statement}
-use Rattle.calendar.proofs.finding.year_of.Tie as tie
+use Rattle.calendar.proofs.finding.year_of.Goals as goal
 
 module _ (d e : ℕ) (most : d ≤ most_days) (share : e ≡ d * 400 / 146097) where
   -- the year after the one found is over, or it is not
@@ -20,16 +18,10 @@ module _ (d e : ℕ) (most : d ≤ most_days) (share : e ≡ d * 400 / 146097) w
   not-over : d < days_before_year (e + 2) → e + 1 ≡ year_of d
   not-over h = year-is d e (omega arith) (omega (arith, mean-high e)) h
 
-returns : tie.Need-returns
-returns c =
-    let s = c.before.before in
-    over s.args.d (s.args.d * 400 / 146097) s.requires refl (omega (arith, c.before.days-before-year.ensures, c.if1.true))
+pub returns-then-days_before_year-d : goal.returns-then-days_before_year-d
+returns-then-days_before_year-d c =
+    over c.args.d (c.args.d * 400 / 146097) c.requires refl (omega (arith, c.days_before_year.ensures, c.if-days_before_year-d.true))
 
-returns-2 : tie.Need-returns-2
-returns-2 c =
-    let s = c.before.before in
-    not-over s.args.d (s.args.d * 400 / 146097) s.requires refl (omega (arith, c.before.days-before-year.ensures, c.if1.false))
-
-pub year-of-spec : {M : Type 1} → statement M
-year-of-spec =
-    tie.close (tie.spec (λ c. search rules) (λ c. search rules) (λ c κs. search rules) (λ c. search rules) (λ c. search rules) returns returns-2)
+pub returns-else-days_before_year-d : goal.returns-else-days_before_year-d
+returns-else-days_before_year-d c =
+    not-over c.args.d (c.args.d * 400 / 146097) c.requires refl (omega (arith, c.days_before_year.ensures, c.if-days_before_year-d.false))

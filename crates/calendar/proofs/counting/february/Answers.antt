@@ -2,9 +2,7 @@
 use mathlib.Core.Path.{◌≡◌, sym, ◌∙◌}
 use mathlib.Core.Bool.{Bool, true, false, cond}
 use Prim.Native.Nat.{ℕ}
-use borrow.Author.Rules.{rules}
-use Rattle.calendar.proofs.counting.february.Statement.{statement}
-use Rattle.calendar.proofs.counting.february.Tie as tie
+use Rattle.calendar.proofs.counting.february.Goals as goal
 
 longer : {r t : Bool} → r ≡ t → r ≡ true → ◌≡◌ {A = ℕ} 29 (cond t 29 28)
 longer e h = rw (sym e ∙ h)
@@ -12,10 +10,8 @@ longer e h = rw (sym e ∙ h)
 shorter : {r t : Bool} → r ≡ t → r ≡ false → ◌≡◌ {A = ℕ} 28 (cond t 29 28)
 shorter e h = rw (sym e ∙ h)
 
-pub february-spec : {M : Type 1} → statement M
-february-spec =
-    tie.close
-    (tie.spec
-    (λ c κs. search rules)
-    (λ c. longer c.before.is-leap.ensures c.if1.true)
-    (λ c. shorter c.before.is-leap.ensures c.if1.false))
+pub returns-then-is_leap : goal.returns-then-is_leap
+returns-then-is_leap c = longer c.is_leap.ensures c.if-is_leap.true
+
+pub returns-else-is_leap : goal.returns-else-is_leap
+returns-else-is_leap c = shorter c.is_leap.ensures c.if-is_leap.false

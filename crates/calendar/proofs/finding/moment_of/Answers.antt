@@ -2,12 +2,10 @@
 use mathlib.Core.Path.{◌≡◌, ap}
 use Prim.Native.Nat.{ℕ, ◌+◌, ◌-◌, ◌/◌, ◌%◌, ◌≤◌, ◌<◌}
 use native.Mathlib.Omega.{arith}
-use borrow.Author.Rules.{rules}
 use Rattle.calendar.specs.declared.Moment.{Moment}
 use Rattle.calendar.specs.Calendar.{days_of_year, days_before_year, days_before_month, Within, most_days, year_of, month_of, moment_of}
 use Rattle.calendar.specs.Moments.{year-found, month-found}
-use Rattle.calendar.proofs.finding.moment_of.Statement.{statement}
-use Rattle.calendar.proofs.finding.moment_of.Tie as tie
+use Rattle.calendar.proofs.finding.moment_of.Goals as goal
 
 -- the year found, and the days before it
 module _ (d y b : ℕ) (most : d ≤ most_days) (year : y ≡ year_of d) (before : b ≡ days_before_year y) where
@@ -30,39 +28,25 @@ is-moment : (n y b m k : ℕ) → y ≡ year_of (n / 86400) → b ≡ days_befor
 unfolding moment_of
 is-moment n y b m k year before month months = cc
 
-days-before-year-requires : tie.Need-days-before-year-requires
-days-before-year-requires c κs = omega (arith, c.year-of.ensures, (year-found (c.before.args.n / 86400) (omega arith)).year)
+pub days_before_year-requires : goal.days_before_year-requires
+days_before_year-requires c = omega (arith, c.year_of-year.ensures, (year-found (c.args.n / 86400) (omega arith)).year)
 
-sub-rest : tie.Need-overflow-sub-rest
-sub-rest c = over _ _ _ (omega arith) c.before.year-of.ensures c.days-before-year.ensures
+pub overflow_sub-rest : goal.overflow_sub-rest
+overflow_sub-rest c = over _ _ _ (omega arith) c.year_of-year.ensures c.days_before_year.ensures
 
-days-before-month-requires : tie.Need-days-before-month-requires
-days-before-month-requires c κs =
-    in-range _ _ _ (omega arith) c.before.before.year-of.ensures c.before.days-before-year.ensures _ c.month-of.ensures
+pub days_before_month-requires : goal.days_before_month-requires
+days_before_month-requires c =
+    in-range _ _ _ (omega arith) c.year_of-year.ensures c.days_before_year.ensures _ c.month_of-month.ensures
 
-sub-day : tie.Need-overflow-sub-day
-sub-day c =
-    let b = c.before.before in
-    let o = months-over _ _ _ (omega arith) b.before.year-of.ensures b.days-before-year.ensures _ c.before.month-of.ensures in
-    omega (arith, c.days-before-month.ensures)
+pub overflow_sub-day : goal.overflow_sub-day
+overflow_sub-day c =
+    let o = months-over _ _ _ (omega arith) c.year_of-year.ensures c.days_before_year.ensures _ c.month_of-month.ensures in
+    omega (arith, c.days_before_month.ensures)
 
-returns : tie.Need-returns
+pub returns : goal.returns
 returns c =
-    is-moment c.before.before.before.before.args.n _ _ _ _
-    c.before.before.before.year-of.ensures
-    c.before.before.days-before-year.ensures
-    c.before.month-of.ensures
-    c.days-before-month.ensures
-
-pub moment-of-spec : {M : Type 1} → statement M
-moment-of-spec =
-    tie.close
-    (tie.spec
-    (λ c κs. search rules)
-    days-before-year-requires
-    sub-rest
-    (λ c κs. search rules)
-    days-before-month-requires
-    sub-day
-    (λ c. search rules)
-    returns)
+    is-moment c.args.n _ _ _ _
+    c.year_of-year.ensures
+    c.days_before_year.ensures
+    c.month_of-month.ensures
+    c.days_before_month.ensures

@@ -3,11 +3,9 @@ use mathlib.Core.Path.{◌≡◌, ◌∙◌, ap₂}
 use mathlib.Core.List.{List}
 use Prim.Native.Nat.{ℕ, ◌+◌, ◌*◌}
 use native.Mathlib.Omega.{arith}
-use borrow.Author.Rules.{rules}
 use Rattle.calendar.specs.declared.Moment.{Moment}
 use Rattle.calendar.specs.Text.{value_at, moment_in}
-use Rattle.calendar.proofs.reader.moment_in.Statement.{statement}
-use Rattle.calendar.proofs.reader.moment_in.Tie as tie
+use Rattle.calendar.proofs.reader.moment_in.Goals as goal
 
 -- four characters are two and two
 four : (s : List ℕ) → value_at s 0 2 * 100 + value_at s 2 2 ≡ value_at s 0 4
@@ -22,29 +20,13 @@ is-moment-in s a b c d e f g =
     let y = ap₂ (λ m n. m * 100 + n) a b ∙ four s in
     λ i. record { year = y i; month = c i; day = d i; hour = e i; minute = f i; second = g i }
 
-returns : tie.Need-returns
+pub returns : goal.returns
 returns c =
-    let s = c.before.before.before.before.before.before in
-    is-moment-in s.before.before.args.s.now
-    s.two_at.ensures.0
-    c.before.before.before.before.before.two-at2.ensures.0
-    c.before.before.before.before.two-at3.ensures.0
-    c.before.before.before.two-at4.ensures.0
-    c.before.before.two-at5.ensures.0
-    c.before.two-at6.ensures.0
-    c.two-at7.ensures.0
-
-pub moment-in-spec : {M : Type 1} → statement M
-moment-in-spec =
-    tie.close
-    (tie.spec
-    (λ c κs. search rules)
-    (λ c. search rules)
-    (λ c κs. search rules)
-    (λ c. search rules)
-    (λ c κs. search rules)
-    (λ c κs. search rules)
-    (λ c κs. search rules)
-    (λ c κs. search rules)
-    (λ c κs. search rules)
-    returns)
+    is-moment-in c.args.s.now
+    c.two_at.ensures.0
+    c.two_at-2.ensures.0
+    c.two_at-month.ensures.0
+    c.two_at-day.ensures.0
+    c.two_at-hour.ensures.0
+    c.two_at-minute.ensures.0
+    c.two_at-second.ensures.0
