@@ -4,7 +4,6 @@ use mathlib.Core.List.{List}
 use Prim.Native.Nat.{ℕ, ◌≤◌}
 use native.Mathlib.Nat.{lt_of_le_of_lt}
 use native.Mathlib.Omega.{arith}
-use borrow.Author.Rules.{rules}
 use lib.IntN.{ℤ, nat_abs, ◌*ℤ◌}
 use mir.Syntax.{w64}
 use mir.Val.{SFits}
@@ -14,8 +13,7 @@ use Rattle.integers.specs.Size.{sfits-of-size}
 use Rattle.coefficients.specs.Formulas.{row, weights_of, own_part, largest}
 use Rattle.coefficients.specs.declared.Formula.{Formula}
 use Rattle.coefficients.proofs.Bounds.{bounded, below}
-use Rattle.coefficients.proofs.own_part.Statement.{statement}
-use Rattle.coefficients.proofs.own_part.Tie as tie
+use Rattle.coefficients.proofs.own_part.Goals as goal
 
 record Made (w a part : ℤ) : Type 0 where
   weight : SFits w64 w
@@ -32,14 +30,8 @@ made f p a ws h small e =
       is = rw e;
     }
 
-made_of : (c : tie.After-weights) → let b = c.before in Made (at c.weights.result 0) b.args.sample (own_part b.args.which b.args.p b.args.sample)
-made_of c = let b = c.before in made b.args.which b.args.p b.args.sample _ b.requires.0 b.requires.1 c.weights.ensures
+pub overflow_mul-result : goal.overflow_mul-result
+overflow_mul-result c = let m = (let it : Made (at c.weights-row.result 0) c.args.sample (own_part c.args.which c.args.p c.args.sample) = made c.args.which c.args.p c.args.sample _ c.requires.le_p c.requires.sample_bound c.weights-row.ensures in it) in rw (to_z-of_z m.weight, to_z-of_z c.ranges.sample) m.product
 
-mul-result : tie.Need-overflow-mul-result
-mul-result c = let m = made_of c.before in rw (to_z-of_z m.weight, to_z-of_z c.before.before.ranges.sample) m.product
-
-returns : tie.Need-returns
-returns c = let m = made_of c.before in simp (to_z-of_z m.weight, to_z-of_z c.before.before.ranges.sample, to_z-of_z m.product) m.is
-
-pub own-part-spec : {M : Type 1} → statement M
-own-part-spec = tie.close (tie.spec (λ c κs. search rules) (λ c. search rules) mul-result returns)
+pub returns : goal.returns
+returns c = let m = (let it : Made (at c.weights-row.result 0) c.args.sample (own_part c.args.which c.args.p c.args.sample) = made c.args.which c.args.p c.args.sample _ c.requires.le_p c.requires.sample_bound c.weights-row.ensures in it) in simp (to_z-of_z m.weight, to_z-of_z c.ranges.sample, to_z-of_z m.product) m.is
