@@ -6,8 +6,7 @@ use Rattle.exact.specs.Bounds.{widen}
 use Rattle.axis.specs.declared.Motion.{Motion}
 use Rattle.axis.specs.Agreement.{change_of, sizes}
 use Rattle.axis.specs.Ready.{Placed}
-use Rattle.axis.proofs.changes.change.Statement.{statement}
-use Rattle.axis.proofs.changes.change.Tie as tie
+use Rattle.axis.proofs.changes.change.Goals as goal
 
 wide-position : (m : Motion) → Placed m → Bounded (2 ^ 62) m.position
 wide-position m p = widen (2 ^ 62) p.position tt
@@ -15,9 +14,12 @@ wide-position m p = widen (2 ^ 62) p.position tt
 wide-velocity : (m : Motion) → Placed m → Bounded (2 ^ 62) m.velocity
 wide-velocity m p = widen (2 ^ 62) p.velocity tt
 
-returns : tie.Need-returns
+pub returns : goal.returns
 unfolding change_of sizes
-returns c = λ i. record { position = c.before.apart.ensures i; velocity = c.apart2.ensures i }
+returns c = λ i. record { position = c.apart-position.ensures i; velocity = c.apart-velocity.ensures i }
 
-pub change-spec : {M : Type 1} → statement M
-change-spec = tie.close (tie.spec (λ c κs. search (rules, wide-position)) (λ c κs. search (rules, wide-velocity)) returns)
+pub apart-position-requires : goal.apart-position-requires
+apart-position-requires c = search (rules, wide-position)
+
+pub apart-velocity-requires : goal.apart-velocity-requires
+apart-velocity-requires c = search (rules, wide-velocity)
