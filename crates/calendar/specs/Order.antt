@@ -64,6 +64,7 @@ earlier-fewer r s (next e (next f (here h))) = omega (arith, earlier-day r s e f
 earlier-fewer {a} {b} r s (next e (next f (next g (here h)))) = omega (arith, same-day a b e f g)
 earlier-fewer {a} {b} r s (next e (next f (next g (next i (here h))))) = omega (arith, same-day a b e f g)
 earlier-fewer {a} {b} r s (next e (next f (next g (next i (next j (here h)))))) = omega (arith, same-day a b e f g)
+earlier-fewer r s (next e (next f (next g (next i (next j (next _ none)))))) = elim none [ ]
 
 -- of two lists of one length, one is before the other, or they are the same
 abbrev Compared : List ℕ → List ℕ → Type 0

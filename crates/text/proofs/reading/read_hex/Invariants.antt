@@ -1,12 +1,8 @@
 -- `text::reading::read_hex` meets its contract. The loop's invariant: the k digits passed are in the number so far.
-use mathlib.Core.Path.{◌≡◌, sym, ◌∙◌}
-use Prim.Native.Nat.{◌≤◌, ◌<◌, ◌+◌, ◌-◌, ◌*◌, ◌^◌}
-use native.Mathlib.Nat.{add-zero}
-use native.Mathlib.Omega.{arith}
-use borrow.Author.Rules.{rules}
+use mathlib.Core.Path.{◌≡◌}
+use Prim.Native.Nat.{◌≤◌, ◌<◌, ◌+◌, ◌-◌, ◌^◌}
 use lib.ListN.{length, drop}
 use Rattle.text.specs.Reading.{hex_going_on, hex_at}
-use Rattle.text.proofs.Hexadecimals.{short, no_digit, a-digit, all_read, wider, within}
 use Rattle.text.proofs.reading.read_hex.Given as goal
 
 abbrev pub invariant-loop-k : goal.invariant-loop-k

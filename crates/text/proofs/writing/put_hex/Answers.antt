@@ -1,5 +1,4 @@
 -- `text::writing::put_hex` meets its contract.
-use borrow.Author.Rules.{rules}
 use Rattle.text.specs.Numbers.{hex}
 use Rattle.text.proofs.writing.put_hex.Goals as goal
 

@@ -1,7 +1,8 @@
 -- `text::writing::put_numbers` meets its contract. The loop's invariant: the first k numbers were written.
 use mathlib.Core.Path.{◌≡◌}
 use mathlib.Core.List.{List, flatten, map}
-use Prim.Native.Nat.{◌+◌, ◌-◌, ◌≤◌, ◌<◌}
+use Rattle.text.specs.Numbers.{numbers}
+use Prim.Native.Nat.{ℕ, ◌+◌, ◌≤◌, ◌<◌}
 use native.Mathlib.Omega.{arith}
 use borrow.Author.Rules.{rules}
 use lib.IntN.{ℤ, pos}
@@ -12,7 +13,6 @@ use mir.Facts.{to_z-of_z}
 use Rattle.text.specs.Places.{Wrote}
 use Rattle.text.specs.Pieces.{nothing, then, one_more, next-room}
 use Rattle.text.specs.Rows.{spaced, numbers-row}
-use Rattle.text.proofs.writing.put_numbers.Lts as lts
 use Rattle.text.proofs.writing.put_numbers.Goals as goal
 
 pub loop-k-init : goal.loop-k-init
@@ -20,26 +20,25 @@ unfolding flatten
 loop-k-init c = (omega arith, nothing c.args.out.now c.args.at)
 
 -- room for the next number after a space
-next : (c : lts.At-loop-k invariant-loop decreases-loop) → c.loop-k.k < c.args.p
-    → c.loop-k.end + length (spaced (get_or c.args.t3 c.loop-k.k (pos 0))) ≤ length c.loop-k.out
-next c h =
-    let nine : length c.args.t3 ≡ 9 = search rules in
-    let room = rw (numbers-row (take c.args.p c.args.t3)) at c.requires.row_in_bounds in
-    next-room spaced c.args.t3 (pos 0) c.loop-k.k c.loop-k.invariant.1 c.args.p h (omega arith) room
+next : (row : List ℤ) (p k at end : ℕ) {old now : List ℕ} → length row ≡ 9 → p ≤ 9 → at + length (numbers (take p row)) ≤ length old
+    → Wrote old at (flatten (map spaced (take k row))) now end → k < p → end + length (spaced (get_or row k (pos 0))) ≤ length now
+next row p k at end nine h room w l = next-room spaced row (pos 0) k w p l (omega arith) (rw (numbers-row (take p row)) at room)
 
 pub put-end-requires : goal.put-end-requires
-put-end-requires c = omega (arith, next c.before.before c.loop-k-test.true)
+put-end-requires c =
+    let nine : length c.args.row ≡ 9 = search rules in
+    omega (arith, next c.args.row c.args.p c.loop-k.k c.args.at c.loop-k.end nine c.requires.p_bound c.requires.row_in_bounds c.loop-k.invariant.1 c.loop-k-test.true)
 
 pub put_signed-end-requires : goal.put_signed-end-requires
 put_signed-end-requires c =
-    let w = c.put-end.ensures in
-    let nine : length c.args.t3 ≡ 9 = search rules in
-    let fits : SFits w64 (get_or c.args.t3 c.loop-k.k (pos 0)) = search rules in
-    rw (to_z-of_z fits) (omega (arith, w.ends, w.long, next c.before.before.before.before.before.before.before c.loop-k-test.true))
+    let nine : length c.args.row ≡ 9 = search rules in
+    let fits : SFits w64 (get_or c.args.row c.loop-k.k (pos 0)) = search rules in
+    let room = next c.args.row c.args.p c.loop-k.k c.args.at c.loop-k.end nine c.requires.p_bound c.requires.row_in_bounds c.loop-k.invariant.1 c.loop-k-test.true in
+    rw (to_z-of_z fits) (omega (arith, c.put-end.ensures.ends, c.put-end.ensures.long, room))
 
 pub loop-k-preserved : goal.loop-k-preserved
 loop-k-preserved c =
-    let row : List ℤ = c.args.t3 in
+    let row : List ℤ = c.args.row in
     let nine : length row ≡ 9 = search rules in
     let fits : SFits w64 (get_or row c.loop-k.k (pos 0)) = search rules in
     let number = then c.put-end.ensures (rw (to_z-of_z fits) at c.put_signed-end.ensures) in
@@ -48,10 +47,7 @@ loop-k-preserved c =
 pub returns : goal.returns
 returns c =
     let all : c.loop-k.k ≡ c.args.p = omega arith in
-    rw (numbers-row (take c.args.p c.args.t3)) (rw all at c.loop-k.invariant.1)
-
-pub loop-k-smaller : goal.loop-k-smaller
-loop-k-smaller c = omega arith
+    rw (numbers-row (take c.args.p c.args.row)) (rw all at c.loop-k.invariant.1)
 
 pub shape_of-out : goal.shape_of-out
 shape_of-out c = c.loop-k.invariant.1.long

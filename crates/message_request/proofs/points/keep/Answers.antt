@@ -1,0 +1,49 @@
+-- `message_request::points::keep` meets its contract. The loop's invariant: the first k numbers were stored.
+use mathlib.Core.Path.{◌≡◌, refl, sym, ap, ◌∙◌}
+use Prim.Native.Nat.{◌+◌}
+use native.Mathlib.Numerals.{add-one}
+use native.Mathlib.Omega.{arith}
+use borrow.Author.Rules.{rules}
+use lib.IntN.{pos}
+use lib.ListN.{length, set, get_or, length-set}
+use lib.Seq.{paste, paste-zero, paste-suc}
+use mir.Syntax.{w64}
+use mir.Val.{SFits}
+use mir.Facts.{to_z-of_z}
+use Rattle.message_request.proofs.points.keep.Goals as goal
+
+pub loop-k-init : goal.loop-k-init
+loop-k-init c = let a = c.args in (omega arith, refl, paste-zero a.numbers.now a.at a.values)
+
+pub loop-k-preserved : goal.loop-k-preserved
+loop-k-preserved c =
+    let l = c.loop-k in
+    let a = c.args in
+    let n : length a.values ≡ 12 = search rules in
+    let f : SFits w64 (get_or a.values l.k (pos 0)) = search rules in (
+      omega arith,
+      length-set l.numbers (a.at + l.k) _ ∙ l.invariant.1,
+      ap (set l.numbers (a.at + l.k)) (to_z-of_z {w = w64} f)
+          ∙ ap (λ xs. set xs (a.at + l.k) (get_or a.values l.k (pos 0))) l.invariant.2
+          ∙ paste-suc a.numbers.now a.at a.values l.k (pos 0) (omega arith) (omega arith)
+          ∙ ap (paste a.numbers.now a.at a.values) (sym (add-one l.k)),
+    )
+
+pub returns : goal.returns
+returns c =
+    let l = c.loop-k in
+    let a = c.args in
+    let e : l.k ≡ 12 = omega arith in
+    l.invariant.2 ∙ ap (paste a.numbers.now a.at a.values) e
+
+pub overflow_add-at : goal.overflow_add-at
+overflow_add-at c = omega arith
+
+pub offset_bounds-numbers-at : goal.offset_bounds-numbers-at
+offset_bounds-numbers-at c = omega arith
+
+pub bounds-numbers-at : goal.bounds-numbers-at
+bounds-numbers-at c = omega arith
+
+pub loop-k-smaller : goal.loop-k-smaller
+loop-k-smaller c = omega arith
