@@ -9,8 +9,7 @@ use Rattle.axis.specs.declared.Motion.{Motion}
 use Rattle.axis.specs.Estimates.{in_range}
 use Rattle.session.proofs.Rules.{axes-in-range}
 use Rattle.steps.specs.Answers.{reported_point}
-use Rattle.steps.proofs.reports.report_point.Statement.{statement}
-use Rattle.steps.proofs.reports.report_point.Tie as tie
+use Rattle.steps.proofs.reports.report_point.Goals as goal
 
 small : (m : Motion) → in_range m ≡ true → (nat_abs m.position.whole ≤ 2 ^ 53) × (nat_abs m.velocity.whole ≤ 2 ^ 53)
 unfolding in_range
@@ -20,15 +19,15 @@ small m h =
       omega (integers, nat_abs-parts m.velocity.whole, one-part m.velocity.whole),
     )
 
-returns : tie.Need-returns
+pub returns : goal.returns
 unfolding reported_point
-returns c = rw (c.before.before.report-motion.ensures, c.before.report-motion2.ensures, c.report-motion3.ensures)
+returns c = rw (c.report_motion-x.ensures, c.report_motion-y.ensures, c.report_motion-z.ensures)
 
-pub report-point-spec : {M : Type 1} → statement M
-report-point-spec =
-    tie.close
-    (tie.spec
-    (λ c κs. small _ ((axes-in-range c.args.q).0 c.requires).0)
-    (λ c κs. let d = c.before in small _ ((axes-in-range d.args.q).0 d.requires).1.0)
-    (λ c κs. let d = c.before.before in small _ ((axes-in-range d.args.q).0 d.requires).1.1)
-    returns)
+pub report_motion-x-requires : goal.report_motion-x-requires
+report_motion-x-requires c = let t = small _ ((axes-in-range c.args.q).0 c.requires).0 in record { whole_bound = t.0; whole_bound_2 = t.1 }
+
+pub report_motion-y-requires : goal.report_motion-y-requires
+report_motion-y-requires c = let t = small _ ((axes-in-range c.args.q).0 c.requires).1.0 in record { whole_bound = t.0; whole_bound_2 = t.1 }
+
+pub report_motion-z-requires : goal.report_motion-z-requires
+report_motion-z-requires c = let t = small _ ((axes-in-range c.args.q).0 c.requires).1.1 in record { whole_bound = t.0; whole_bound_2 = t.1 }

@@ -2,7 +2,6 @@
 use mathlib.Core.Path.{◌≡◌, sym, ap, ◌∙◌}
 use mathlib.Core.Bool.{true}
 use Prim.Native.Nat.{ℕ}
-use borrow.Author.Rules.{rules}
 use Rattle.ticks.specs.declared.Sample.{Sample}
 use Rattle.session.specs.Holding.{holds, awaiting}
 use Rattle.running.specs.declared.AfterRun.{AfterRun}
@@ -10,8 +9,7 @@ use Rattle.running.specs.declared.runs.Readied.{Readied}
 use Rattle.running.specs.Runs.{come, correcting, taken}
 use Rattle.running.specs.Readied.{readied}
 use Rattle.running.proofs.Readied.{ready-awaits, ready-corrects, ready-ends}
-use Rattle.running.proofs.runs.take.Statement.{statement}
-use Rattle.running.proofs.runs.take.Tie as tie
+use Rattle.running.proofs.runs.take.Goals as goal
 
 -- by what the session was made
 module _ (run : AfterRun) (a : Sample) (x : Readied) (e : x ≡ readied run.session) where
@@ -27,23 +25,17 @@ module _ (run : AfterRun) (a : Sample) (x : Readied) (e : x ≡ readied run.sess
   awaited : holds run.session ≡ true → x.number ≡ 0 → awaiting x.session ≡ true
   awaited h z = ap (λ y. awaiting y.session) e ∙ ready-awaits run.session h (same z)
 
-returns : tie.Need-returns
+pub returns-then-ready-ne0 : goal.returns-then-ready-ne0
+returns-then-ready-ne0 c =
+    let k = c.made_ready-ready in
+    c.come_to.ensures ∙ ended c.args.run c.args.a k.result k.ensures c.if-ready-ne0.true
+
+pub correct_on-requires-clause-s_value : goal.correct_on-requires-clause-s_value
+correct_on-requires-clause-s_value c =
+    let k = c.made_ready-ready in
+    awaited c.args.run c.args.a k.result k.ensures c.requires.session_value c.if-ready-ne0.false
+
+pub returns : goal.returns
 returns c =
-    let k = c.before.before.before.before.made-ready in
-    let b = c.before.before.before.before.before.before in
-    c.come-to.ensures ∙ ended b.args.run b.args.a k.result k.ensures c.before.if1.true
-
-correct-on-requires : tie.Need-correct-on-requires
-correct-on-requires c κs =
-    let k = c.before.before.before.made-ready in
-    let b = c.before.before.before.before.before in
-    (awaited b.args.run b.args.a k.result k.ensures b.requires.0 c.if1.false, b.requires.1)
-
-returns-2 : tie.Need-returns-2
-returns-2 c =
-    let k = c.before.before.before.before.made-ready in
-    let b = c.before.before.before.before.before.before in
-    c.correct-on.ensures ∙ went_on b.args.run b.args.a k.result k.ensures c.before.if1.false
-
-pub take_spec : {M : Type 1} → statement M
-take_spec = tie.close (tie.spec (λ c κs. search rules) (λ c κs. search rules) returns correct-on-requires returns-2)
+    let k = c.made_ready-ready in
+    c.correct_on.ensures ∙ went_on c.args.run c.args.a k.result k.ensures c.if-ready-ne0.false
