@@ -1,9 +1,10 @@
 -- `reasons::changes::is_over` meets its contract: the change is above the tolerance, or below its negative.
+-- ---- the tolerance and its negative, as the machine has them
+-- ---- the two tests of a change, and its size
 use mathlib.Core.Path.{◌≡◌, sym, ap, ◌∙◌}
 use mathlib.Core.Bool.{true, false, not}
-use Prim.Native.Nat.{ℕ, ◌*◌, ◌≤◌, ◌<◌}
+use Prim.Native.Nat.{ℕ, ◌*◌, ◌≤◌}
 use native.Mathlib.Omega.{arith}
-use borrow.Author.Rules.{rules}
 use borrow.Author.Tests.{leb-true, le-leb, lt-leb}
 use lib.Dec.{leb, lit<}
 use lib.IntN.{ℤ, pos, neg_ℤ, nat_abs, ◌-ℤ◌, +ℤ_idl}
@@ -18,10 +19,8 @@ use Rattle.integers.specs.Tests.{agree, failed, passed}
 use Rattle.exact.specs.declared.Exact.{Exact}
 use Rattle.exact.specs.Numerator.{D, numerator, wholly}
 use Rattle.exact.specs.Laws.{numerator-wholly}
-use Rattle.reasons.proofs.changes.is_over.Statement.{statement}
-use Rattle.reasons.proofs.changes.is_over.Tie as tie
-
--- ---- the tolerance and its negative, as the machine has them
+use Rattle.std.proofs.lemmas.Bool.{not_from_false, not_from_true}
+use Rattle.reasons.proofs.changes.is_over.Goals as goal
 
 module _ (t : ℕ) (h : t ≤ 1048576) where
   cast : to_z w64 t ≡ pos t
@@ -45,8 +44,6 @@ module _ (t : ℕ) (h : t ≤ 1048576) where
       ∙ numerator-wholly (neg_ℤ (pos t))
       ∙ negℤ-*ℤ-left (pos t) (pos D)
 
--- ---- the two tests of a change, and its size
-
 module _ (z : ℤ) (b : ℕ) where
   above : le_z z (pos b) ≡ false → true ≡ not (leb (nat_abs z) b)
   above h = sym (ap not (lt-leb (nat_abs z) b (omega (integers, nat_abs-parts z, one-part z))))
@@ -57,42 +54,26 @@ module _ (z : ℤ) (b : ℕ) where
       (λ e. le-leb (nat_abs z) b (omega (integers, nat_abs-parts z, one-part z, neg-parts (pos b))))
       (λ e. omega (integers, leb-true (nat_abs z) b e, nat_abs-parts z, one-part z, neg-parts (pos b)))
 
-at-most-requires : tie.Need-at-most-requires
-at-most-requires c κs = (c.before.requires.1.small, rw c.of-whole.ensures (lit< tt))
+pub at_most-requires : goal.at_most-requires
+at_most-requires c = (c.requires.bounded.small, rw c.of_whole.ensures (lit< tt))
 
-returns : tie.Need-returns
-returns c =
-    let d = c.before.before in
-    let a = d.before.args in
+pub returns-then-not-at_most : goal.returns-then-not-at_most
+returns-then-not-at_most c =
+    let a = c.args in
     let t = a.tolerance in
     above (numerator a.change) (t * D)
-    (failed (c.before.at_most.ensures ∙ ap (le_z (numerator a.change)) (most t d.before.requires.0 d.of-whole.ensures)) c.if1.true)
+    (failed (c.at_most.ensures ∙ ap (le_z (numerator a.change)) (most t c.requires.tolerance_bound c.of_whole.ensures)) (not_from_false _ c.if-not-at_most.true))
 
-sub-of-whole : tie.Need-overflow-sub-of-whole
-sub-of-whole c = let d = c.before.before.before in fits d.args.tolerance d.requires.0
+pub overflow_sub-most : goal.overflow_sub-most
+overflow_sub-most c = fits c.args.tolerance c.requires.tolerance_bound
 
-at-most-requires-2 : tie.Need-at-most-requires-2
-at-most-requires-2 c κs = (rw c.of-whole2.ensures (lit< tt), c.before.before.before.before.requires.1.small)
+pub at_most-requires-2 : goal.at_most-requires-2
+at_most-requires-2 c = (rw c.of_whole-2.ensures (lit< tt), c.requires.bounded.small)
 
-returns-2 : tie.Need-returns-2
-returns-2 c =
-    let d = c.before.before.before in
-    let b = d.before.before in
-    let a = b.args in
+pub returns : goal.returns
+returns c =
+    let a = c.args in
     let t = a.tolerance in
     let z = numerator a.change in
-    let under = passed (d.at_most.ensures ∙ ap (le_z z) (most t b.requires.0 d.before.of-whole.ensures)) c.before.before.if1.false in
-    ap not (c.at-most2.ensures ∙ ap (λ y. le_z y z) (least t b.requires.0 c.before.of-whole2.ensures) ∙ not-above z (t * D) under)
-
-pub is-over-spec : {M : Type 1} → statement M
-is-over-spec =
-    tie.close
-    (tie.spec
-    (λ c. search rules)
-    (λ c κs. tt)
-    at-most-requires
-    returns
-    sub-of-whole
-    (λ c κs. tt)
-    at-most-requires-2
-    returns-2)
+    let under = passed (c.at_most.ensures ∙ ap (le_z z) (most t c.requires.tolerance_bound c.of_whole.ensures)) (not_from_true _ c.if-not-at_most.false) in
+    ap not (c.at_most-2.ensures ∙ ap (λ y. le_z y z) (least t c.requires.tolerance_bound c.of_whole-2.ensures) ∙ not-above z (t * D) under)

@@ -17,8 +17,8 @@ use Rattle.reasons.specs.Reasons.{first, named, is_out, beside, point_reasons}
 use Rattle.reasons.specs.Differences.{differences_with}
 use Rattle.reasons.specs.Explanations.{explanation, explained_by, judged_point, explained_with}
 use Rattle.reasons.proofs.Numbers.{given, out}
-use Rattle.reasons.proofs.explains.explain_with.Statement.{statement}
-use Rattle.reasons.proofs.explains.explain_with.Tie as tie
+use Rattle.std.proofs.lemmas.Bool.{not_from_false, not_from_true}
+use Rattle.reasons.proofs.explains.explain_with.Goals as goal
 
 module _ (s : Session) (w : WholeSample) {q : Point} (e : q ≡ corrected_point s w) {d : Differences} (f : d ≡ differences_with 0 s w) where
   -- a point that was worked out, and is in range
@@ -38,40 +38,23 @@ module _ (s : Session) (w : WholeSample) {q : Point} (e : q ≡ corrected_point 
       ∙ ap (λ p. judged_point s p d) e
       ∙ ap (explanation _ _ _) (f ∙ sym (given s (corrected_point s w) w))
 
-corrected-point-requires : tie.Need-corrected-point-requires
-corrected-point-requires c κs = ((waiting c.args.s c.requires.0).ready, c.requires.1)
+pub corrected_point-q-requires : goal.corrected_point-q-requires
+corrected_point-q-requires c = record { ready_session = (waiting c.args.s c.requires.s_value).ready; within_limit = c.requires.within_limit }
 
-differences-of-requires : tie.Need-differences-of-requires
-differences-of-requires c κs = let b = c.before in ((waiting b.args.s b.requires.0).ready, b.requires.1)
+pub differences_of-differences-requires : goal.differences_of-differences-requires
+differences_of-differences-requires c = record { ready_session = (waiting c.args.s c.requires.s_value).ready; within_limit = c.requires.within_limit }
 
-returns : tie.Need-returns
+pub returns-then-not-point_in_range : goal.returns-then-not-point_in_range
+returns-then-not-point_in_range c =
+    let a = c.args in
+    outside a.s a.w c.corrected_point-q.ensures c.differences_of-differences.ensures c.first_out-reason.ensures (failed c.point_in_range.ensures (not_from_false _ c.if-not-point_in_range.true))
+
+pub judge-requires : goal.judge-requires
+judge-requires c =
+    let t = passed c.point_in_range.ensures (not_from_true _ c.if-not-point_in_range.false) in
+    record { waiting = waiting c.args.s c.requires.s_value; placed_point = placed-point c.args.s c.args.w c.corrected_point-q.ensures c.differences_of-differences.ensures t; q_value = t }
+
+pub returns : goal.returns
 returns c =
-    let b = c.before.before in
-    let d = b.before.before in
-    let a = d.before.args in
-    outside a.s a.w d.corrected-point.ensures b.before.differences-of.ensures c.first_out.ensures (failed b.point-in-range.ensures c.before.if1.true)
-
-judge-requires : tie.Need-judge-requires
-judge-requires c κs =
-    let d = c.before.before.before in
-    let a = d.before in
-    let t = passed c.before.point-in-range.ensures c.if1.false in
-    (waiting a.args.s a.requires.0, (placed-point a.args.s a.args.w d.corrected-point.ensures c.before.before.differences-of.ensures t, t))
-
-returns-2 : tie.Need-returns-2
-returns-2 c =
-    let d = c.before.before.before.before in
-    let a = d.before.args in
-    inside a.s a.w d.corrected-point.ensures c.before.before.before.differences-of.ensures c.judge.ensures
-
-pub explain-with-spec : {M : Type 1} → statement M
-explain-with-spec =
-    tie.close
-    (tie.spec
-    corrected-point-requires
-    differences-of-requires
-    (λ c κs. tt)
-    (λ c κs. tt)
-    returns
-    judge-requires
-    returns-2)
+    let a = c.args in
+    inside a.s a.w c.corrected_point-q.ensures c.differences_of-differences.ensures c.judge.ensures

@@ -12,8 +12,7 @@ use Rattle.exact.specs.Laws.{made}
 use Rattle.exact.specs.Bounds.{widen, difference-within}
 use Rattle.axis.specs.Kinds.{moved_by, within}
 use Rattle.reasons.specs.Reasons.{reason, no_reason, compared}
-use Rattle.reasons.proofs.changes.compare.Statement.{statement}
-use Rattle.reasons.proofs.changes.compare.Tie as tie
+use Rattle.reasons.proofs.changes.compare.Goals as goal
 
 -- the change of two values in range, as `subtract` gives it
 module _ (e before : Exact) {r : Exact} (p : Bounded (2 ^ 52) e) (q : Bounded (2 ^ 52) before) (h : r ≡ exact_of (moved_by e before)) where
@@ -34,26 +33,21 @@ module _ (e before : Exact) {r : Exact} (n tolerance : ℕ) (h : r ≡ exact_of 
   under : t ≡ false → no_reason ≡ compared n tolerance e before
   under g = sym (ap (λ b. cond b (reason n (reported_of (exact_of (moved_by e before))) tolerance) no_reason) (sym told ∙ g))
 
-subtract-requires : tie.Need-subtract-requires
-subtract-requires c κs = let (_, (e, f)) = c.requires in (widen (2 ^ 62) e tt, widen (2 ^ 62) f tt)
+pub subtract-exact-requires : goal.subtract-exact-requires
+subtract-exact-requires c = record { bounded = widen (2 ^ 62) c.requires.bounded tt; bounded_2 = widen (2 ^ 62) c.requires.bounded_2 tt }
 
-is-over-requires : tie.Need-is-over-requires
-is-over-requires c κs = let a = c.before.args in let (t, (e, f)) = c.before.requires in (t, widen (2 ^ 62) (bounded a.now a.before e f c.subtract.ensures) tt)
+pub is_over-requires : goal.is_over-requires
+is_over-requires c = let a = c.args in record { tolerance_bound = c.requires.tolerance_bound; bounded = widen (2 ^ 62) (bounded a.now a.before c.requires.bounded c.requires.bounded_2 c.subtract-exact.ensures) tt }
 
-reported-requires : tie.Need-reported-requires
-reported-requires c κs = let d = c.before.before.before in let (_, (e, f)) = d.requires in reports d.args.now d.args.before e f c.before.before.subtract.ensures
+pub reported-change-requires : goal.reported-change-requires
+reported-change-requires c = reports c.args.now c.args.before c.requires.bounded c.requires.bounded_2 c.subtract-exact.ensures
 
-returns : tie.Need-returns
+pub returns-then-is_over : goal.returns-then-is_over
+returns-then-is_over c =
+    let a = c.args in
+    rw c.reported-change.ensures (over a.now a.before a.value a.tolerance c.subtract-exact.ensures c.is_over.ensures c.if-is_over.true)
+
+pub returns : goal.returns
 returns c =
-    let d = c.before.before in
-    let a = d.before.before.args in
-    rw c.reported.ensures (over a.now a.before a.value a.tolerance d.before.subtract.ensures d.is-over.ensures c.before.if1.true)
-
-returns-2 : tie.Need-returns-2
-returns-2 c =
-    let d = c.before.before in
-    let a = d.before.before.args in
-    c.place.ensures ∙ under a.now a.before a.value a.tolerance d.before.subtract.ensures d.is-over.ensures c.before.if1.false
-
-pub compare-spec : {M : Type 1} → statement M
-compare-spec = tie.close (tie.spec subtract-requires is-over-requires reported-requires returns (λ c κs. tt) returns-2)
+    let a = c.args in
+    c.place.ensures ∙ under a.now a.before a.value a.tolerance c.subtract-exact.ensures c.is_over.ensures c.if-is_over.false
