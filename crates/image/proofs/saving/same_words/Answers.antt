@@ -1,4 +1,5 @@
 -- `image::saving::same_words` meets its contract. The loop's invariant: the first 8 * i bytes are the same.
+use borrow.Author.Rules.{rules}
 use mathlib.Core.Path.{◌≡◌, refl, sym, ◌∙◌, ap}
 use Prim.Native.Nat.{◌+◌, ◌*◌}
 use native.Mathlib.Omega.{arith}
@@ -20,8 +21,8 @@ loop-i-preserved c =
     let b = c.args.b.now in
     let e : 8 * (l.i + 1) ≡ 8 * l.i + 8 = omega arith in
     let w : word_at (8 * l.i) a ≡ word_at (8 * l.i) b = sym c.word_at.ensures ∙ c.if-word_at.false ∙ c.word_at-in-loop-i.ensures in
-    let ha : AreBytes a = record { below = λ i. (c.shared_slice_known-1.given i).fits } in
-    let hb : AreBytes b = record { below = λ i. (c.shared_slice_known-2-1.given i).fits } in
+    let ha : AreBytes a = record { below = λ i. search rules } in
+    let hb : AreBytes b = record { below = λ i. search rules } in
     (omega arith, rw e (one-more-word a b (8 * l.i) ha hb (omega arith) (omega arith) l.invariant.1 w))
 
 pub returns : goal.returns
