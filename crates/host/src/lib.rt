@@ -76,13 +76,7 @@ pub fn durungkilat_predict(image: &mut [u8], answer: &mut [u8]) -> u32
     leave(image, answer, session, prediction_answer(prediction))
 }
 
-pub fn durungkilat_correct(
-    image: &mut [u8],
-    answer: &mut [u8],
-    x: f64,
-    y: f64,
-    z: f64,
-) -> u32
+pub fn durungkilat_correct(image: &mut [u8], answer: &mut [u8], x: f64, y: f64, z: f64) -> u32
     ensures { Leaves (host_correct image.old answer.old (record { x = x; y = y; z = z })) result image.new answer.new }
 {
     if answer.len() != 200 {
