@@ -47,7 +47,13 @@ fn mend(text: &[u8], mended: &mut [u8], changes: &mut [u64], list: &mut [u8]) ->
 }
 
 // Reads, mends, and writes once everything is known.
-fn serve(rt: &HostRuntime, input: &mut [u8], mended: &mut [u8], changes: &mut [u64], list: &mut [u8])
+fn serve(
+    rt: &HostRuntime,
+    input: &mut [u8],
+    mended: &mut [u8],
+    changes: &mut [u64],
+    list: &mut [u8],
+)
     requires { 32 + 16 * length changes.old ≤ length list.old }
 {
     let read = read_all(rt, input);

@@ -11,13 +11,17 @@ pub(crate) fn put_error(rt: &HostRuntime, text: &[u8]) {
     let _taken = rt.stderr().write_all(text).is_ok();
 }
 
+fn without_number(said: &str) -> &str {
+    match said.split_once(" (os error ") {
+        Some((before, _)) => before,
+        None => said,
+    }
+}
+
 // A line on standard error: what failed, a colon, and what the system says of it, without the number that std writes after that.
 pub(crate) fn fail(rt: &HostRuntime, what: &str, error: Error) {
     if let Ok(said) = format!(in rt.alloc(); "{error}") {
-        let told = match said.as_str().split_once(" (os error ") {
-            Some((before, _)) => before,
-            None => said.as_str(),
-        };
+        let told = without_number(said.as_str());
         let _taken = eprintln!(rt; "{what}: {told}").is_ok();
     }
 }

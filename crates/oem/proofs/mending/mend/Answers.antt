@@ -12,8 +12,7 @@ use Rattle.reports.specs.Reports.{list_of}
 use Rattle.oem.specs.Answers.{Says}
 use Rattle.oem.specs.Mended.{mended_text, list_text}
 use Rattle.oem.proofs.Rooms.{count_fits, mended-said, listed}
-use Rattle.oem.proofs.mending.mend.Statement.{statement}
-use Rattle.oem.proofs.mending.mend.Tie as tie
+use Rattle.oem.proofs.mending.mend.Goals as goal
 
 -- what the calls left, and what it is by the definitions
 module _ (d : Edition) (text out changes : List ℕ) {r : Mended} {left words : List ℕ} (e : r ≡ mended_to d text out changes) (a : left ≡ out_after d text out changes)
@@ -27,28 +26,19 @@ module _ (d : Edition) (text out changes : List ℕ) {r : Mended} {left words : 
   list : {bytes : List ℕ} {n : ℕ} → Says bytes n (list_of r.number words r.changes) → Says bytes n (list_text d text (length out) (length changes))
   list {bytes} {n} h = subst (Says bytes n) (ap (λ r. list_of r.number words r.changes) e ∙ ap (λ w. list_of (mended_to d text out changes).number w (mended_to d text out changes).changes) b ∙ listed out changes d text) h
 
-list-changes-requires : tie.Need-list-changes-requires
-list-changes-requires c κs =
-    let s = c.before.before.before.before.before.before.before.before.before.before.before.before.before in
-    let (e, (a, b)) = c.before.before.before.before.before.before.mend-message.ensures in
-    search (rules, count (edition_in s.args.text.now) s.args.text.now s.args.mended.now s.args.changes.now e a b)
+pub list_changes-listed-requires : goal.list_changes-listed-requires
+list_changes-listed-requires c =
+    let e = c.mend_message-done.ensures.value in
+    let a = c.mend_message-done.ensures.out_after in
+    let b = c.mend_message-done.ensures.changes_after in
+    search (rules, count (edition_in c.args.text.now) c.args.text.now c.args.mended.now c.args.changes.now e a b)
 
-returns : tie.Need-returns
+pub returns : goal.returns
 returns c =
-    let s = c.before.before.before.before.before.before.before.before.before.before.before.before.before.before.before.before in
-    let text = s.args.text.now in
-    let out = s.args.mended.now in
-    let changes = s.args.changes.now in
-    let (e, (a, b)) = c.before.before.before.before.before.before.before.before.before.mend-message.ensures in
-    (message (edition_in text) text out changes e a b, list (edition_in text) text out changes e a b c.before.before.list-changes.ensures)
-
-pub mend-spec : {M : Type 1} → statement M
-mend-spec =
-    tie.close
-    (tie.spec
-    (λ c κs. search rules)
-    list-changes-requires
-    (λ c. search rules)
-    (λ c. search rules)
-    (λ c. search rules)
-    returns)
+    let text = c.args.text.now in
+    let out = c.args.mended.now in
+    let changes = c.args.changes.now in
+    let e = c.mend_message-done.ensures.value in
+    let a = c.mend_message-done.ensures.out_after in
+    let b = c.mend_message-done.ensures.changes_after in
+    record { says = message (edition_in text) text out changes e a b; says_2 = list (edition_in text) text out changes e a b c.list_changes-listed.ensures }
