@@ -33,7 +33,7 @@ class Arguments(argparse.ArgumentParser):
 
 def is_built(program):
     """Whether the program of the library that a name in programs/ stands for is there."""
-    return (TOP / 'target' / 'bin' / program.name).is_file()
+    return (TOP / 'crates' / program.name / 'out' / program.name).is_file()
 
 
 def program_path(text):

@@ -5,7 +5,7 @@ set -u
 cd "$(dirname "$0")/.." || exit 2
 room=$(mktemp -d) || exit 2
 trap 'rm -rf "$room"' EXIT
-mkdir -p "$room/bin" "$room/top"
+mkdir -p "$room/bin" "$room/top/crates/host_c"
 cp build "$room/top"
 calls="open predict correct withdraw"
 gcc=gcc
@@ -13,13 +13,12 @@ gcc=gcc
 
 # prover NAME ..: a prover that makes an archive of functions of these names; without names it fails
 prover() {
-    rm -rf "$room/top/target" "$room/archive.a"
+    rm -rf "$room/top/target" "$room/top/crates/host_c/out" "$room/archive.a"
     if [ $# -eq 0 ]; then
         printf '#!/bin/sh\nexit 1\n' >"$room/bin/rt"
     else
         printf 'int %s(void) { return 0; }\n' "$@" | "$gcc" -x c -c -fPIC -o "$room/archive.o" - && ar rcs "$room/archive.a" "$room/archive.o"
-        printf '#!/bin/sh\n[ "$*" = "staticlib host" ] && mkdir -p target/staticlib && cp %s target/staticlib/libhost.a\n' "$room/archive.a" \
-            >"$room/bin/rt"
+        printf '#!/bin/sh\n[ "$*" = lib ] && [ "${PWD##*/}" = host_c ] && mkdir -p out && cp %s out/libhost_c.a\n' "$room/archive.a" >"$room/bin/rt"
     fi
     chmod +x "$room/bin/rt"
 }

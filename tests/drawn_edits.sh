@@ -1,6 +1,6 @@
 #!/usr/bin/env bash
 # Draws ten of the further edits and tries them: the prover must refuse each. --seed S draws as the run did that printed S, --count N
-# draws another number. Prove the crates first: rt check.
+# draws another number. Prove the crates first: rt all check.
 set -u
 cd "$(dirname "$0")/.." || exit 2
 room=$(mktemp -d) || exit 2

@@ -1,11 +1,11 @@
 #!/usr/bin/env bash
 # Runs oem on each NAME.request of scripts and holds what it writes against NAME.oem, byte for byte; then on fresh requests
-# against an independent implementation in Python. Build the program first: rt check.
+# against an independent implementation in Python. Build the program first: programs/build oem.
 set -u
 cd "$(dirname "$0")/.." || exit 2
 program=programs/oem
-if [ ! -x target/bin/oem ]; then
-    echo "tests/messages.sh: no program target/bin/oem: run 'rt check' first" >&2
+if [ ! -x crates/oem/out/oem ]; then
+    echo "tests/messages.sh: no program crates/oem/out/oem: run 'programs/build oem' first" >&2
     exit 2
 fi
 written=$(mktemp) || exit 2

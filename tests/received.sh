@@ -1,12 +1,12 @@
 #!/usr/bin/env bash
 # Has oem read and mend each NAME.oem of tests/received and holds what it writes against NAME.read, NAME.mended and NAME.changes, byte for
-# byte; then fresh messages against an independent implementation in Python. Build the program first: rt check.
+# byte; then fresh messages against an independent implementation in Python. Build the program first: programs/build oem.
 # tests/received.sh PROGRAM tries another one, given from the top of the repository: peer/oem passes.
 set -u
 cd "$(dirname "$0")/.." || exit 2
 program=${1:-programs/oem}
-if [ $# -eq 0 ] && [ ! -x target/bin/oem ]; then
-    echo "tests/received.sh: no program target/bin/oem: run 'rt check' first" >&2
+if [ $# -eq 0 ] && [ ! -x crates/oem/out/oem ]; then
+    echo "tests/received.sh: no program crates/oem/out/oem: run 'programs/build oem' first" >&2
     exit 2
 fi
 if [ ! -f "$program" ] || [ ! -x "$program" ]; then

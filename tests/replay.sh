@@ -1,11 +1,11 @@
 #!/usr/bin/env bash
 # Runs replay on each NAME.script of scripts and holds what it writes against NAME.out, byte for byte.
-# Build the program first: rt check.
+# Build the program first: programs/build replay.
 set -u
 cd "$(dirname "$0")/.." || exit 2
 program=programs/replay
-if [ ! -x target/bin/replay ]; then
-    echo "tests/replay.sh: no program target/bin/replay: run 'rt check' first" >&2
+if [ ! -x crates/replay/out/replay ]; then
+    echo "tests/replay.sh: no program crates/replay/out/replay: run 'programs/build replay' first" >&2
     exit 2
 fi
 written=$(mktemp) || exit 2

@@ -57,9 +57,9 @@ class Repository:
 
     def find(self, path):
         """The first file or folder of that path, from the top or from crates/. CRATE and LABEL stand for any; of what the build makes
-        in target/ a program has to have its crate."""
+        a program has to have its crate."""
         path = path.split()[0].rstrip("/").replace("CRATE", "*").replace("LABEL", "*")
-        path = re.sub(r"^target/bin/(\w+)$", r"crates/\1/src/main.rt", path)
+        path = re.sub(r"^crates/(\w+)/out/\1$", r"crates/\1/src/main.rt", path)
         if path.split("/")[0] == "target":
             return self.root / path
         for folder in ("", "crates/", "crates/*/") if path in PARTS else ("", "crates/"):

@@ -1,12 +1,12 @@
 #!/usr/bin/env bash
 # Runs the table printer on each NAME.in of tests/table_printer and holds what it writes against NAME.out.
-# A NAME.out without a NAME.in is for an input that cannot be read. Build the program first: rt check.
+# A NAME.out without a NAME.in is for an input that cannot be read. Build the program first: programs/build table_printer.
 set -u
 cd "$(dirname "$0")/.." || exit 2
 program=programs/table_printer
 cases=tests/table_printer
-if [ ! -x target/bin/table_printer ]; then
-    echo "tests/table_printer.sh: no program target/bin/table_printer: run 'rt check' first" >&2
+if [ ! -x crates/table_printer/out/table_printer ]; then
+    echo "tests/table_printer.sh: no program crates/table_printer/out/table_printer: run 'programs/build table_printer' first" >&2
     exit 2
 fi
 written=$(mktemp) || exit 2

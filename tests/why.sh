@@ -1,11 +1,11 @@
 #!/usr/bin/env bash
 # Runs why on each script of scripts that has a NAME.why and holds what it writes against that, byte for byte; then on fresh
-# scripts against an independent implementation in Python. Build the program first: rt check.
+# scripts against an independent implementation in Python. Build the program first: programs/build why.
 set -u
 cd "$(dirname "$0")/.." || exit 2
 program=programs/why
-if [ ! -x target/bin/why ]; then
-    echo "tests/why.sh: no program target/bin/why: run 'rt check' first" >&2
+if [ ! -x crates/why/out/why ]; then
+    echo "tests/why.sh: no program crates/why/out/why: run 'programs/build why' first" >&2
     exit 2
 fi
 written=$(mktemp) || exit 2

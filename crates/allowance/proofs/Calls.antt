@@ -21,7 +21,7 @@ use Rattle.running.specs.Samples.{samples_in}
 use Rattle.running.specs.Runs as Runs
 use Rattle.running.specs.Runs.{come, corrected, predicted, taken_by, taken, over, on_by, on, run_refusal, run_by, run_of}
 use Rattle.running.proofs.Kept.{corrected-session}
-use Rattle.demands.specs.Histories.{Call, predict, correct, Event, predicting, correcting, withdrawing, refining, ours, step, event, after, history, entries, samples_of}
+use Rattle.demands.specs.Histories.{Call, correct, Event, predicting, correcting, withdrawing, refining, ours, step, event, after, history, entries, samples_of}
 use Rattle.demands.specs.Records.{OpenRecord}
 use Rattle.demands.specs.ClosedForm.{Origin, Begins}
 use Rattle.promised.specs.Theorems.{Keeping, Counting, Together}

@@ -31,7 +31,6 @@ use Rattle.running.proofs.Read.{length-samples}
 use Rattle.running.proofs.Kept.{waits, rests, taken-holds, points-short}
 use Rattle.running.proofs.On.{on-over}
 use Rattle.running.proofs.Bound.{began-settled}
-use Rattle.demands.specs.Records.{SettledRecord, AwaitingRecord}
 use Rattle.demands.proofs.Records.{settled-record, awaiting-record}
 use Rattle.allowance.specs.Endings.{run_table, OneOf, Ending, enough, no_sample_left, unpredicted, refused, limited}
 

@@ -1,5 +1,5 @@
 -- How large a difference is: p doublings of 2^28, which is at most 2^37.
-use Prim.Native.Nat.{ℕ, ◌+◌, ◌^◌, ◌≤◌}
+use Prim.Native.Nat.{◌+◌, ◌^◌, ◌≤◌}
 use native.Mathlib.Nat.{pow-le-pow_right}
 use native.Mathlib.Omega.{arith}
 use lib.IntN.{nat_abs}

@@ -1,5 +1,5 @@
 -- Demand 2 in fractions: the sums and points of a session, which are numerators over D, are those of the rules' fractions.
-use mathlib.Core.Path.{◌≡◌, refl, ap, ◌∙◌}
+use mathlib.Core.Path.{refl, ap, ◌∙◌}
 use mathlib.Core.List.{List, [], ◌∷◌}
 use Prim.Native.Nat.{ℕ, ◌≤◌}
 use lib.IntN.{ℤ, pos, ◌-ℤ◌, ◌*ℤ◌}
@@ -21,7 +21,7 @@ use Rattle.steps.specs.declared.ReportedPoint.{ReportedPoint}
 use Rattle.steps.specs.declared.Prediction.TheVariants as P
 use Rattle.steps.specs.declared.Correction.TheVariants as C
 use Rattle.demands.specs.Histories.{ours, Call, history, Event, predicting, correcting, withdrawing, refining, entries, samples_of}
-use Rattle.demands.specs.ClosedForm.{Origin, Begins, samples, first_sum, second_before, second_sum, position_at, velocity_at, next_position, next_velocity, Carries, Tells, Told}
+use Rattle.demands.specs.ClosedForm.{Origin, Begins, samples, first_sum, second_before, position_at, velocity_at, next_position, next_velocity, Carries, Tells, Told}
 use Rattle.demands.specs.Fractions.{◌⊖◌, first_in, before_in, corrected_position, corrected_velocity, predicted_position, predicted_velocity, Worth, TellsInTicks, ToldInTicks}
 use Rattle.demands.proofs.Standing.{points-most}
 use Rattle.demands.proofs.Ours.{formulas}

@@ -10,17 +10,16 @@ use lib.ListN.{take, replicate, get_or}
 use Rattle.integers.specs.Differences.{at, past-taken, by_differences}
 use Rattle.exact.specs.Numerator.{D, numerator}
 use Rattle.exact.specs.Laws.{numerator-exact_of}
-use Rattle.coefficients.specs.Fraction.{Fraction, ◌over◌}
+use Rattle.coefficients.specs.Fraction.{◌over◌}
 use Rattle.epoch_coefficients.specs.Formulas.{has_centre, earlier_position, earlier_velocity}
 use Rattle.epoch_coefficients.proofs.Applied.{position-applied, velocity-applied}
 use Rattle.epoch_coefficients.proofs.Centre.{at-most-9}
 use Rattle.epoch_coefficients.proofs.Times.{Times, sum}
 use Rattle.ticks.specs.Round.{rounded_of, ticks_in}
 use Rattle.axis.specs.declared.Axis.{Axis}
-use Rattle.axis.specs.Formulas.{S1, S2, ticks, places}
-use Rattle.axis.proofs.Points.{back, forth}
+use Rattle.axis.specs.Formulas.{ticks, places}
+use Rattle.axis.proofs.Points.{forth}
 use Rattle.epoch_axis.specs.Formulas.{back_sums, run_back, newest_sums, earlier_motion, centre}
-use Rattle.epoch_axis.specs.declared.Sums.{Sums}
 use Rattle.epoch_axis.proofs.Started.{centre-below}
 use Rattle.session.specs.declared.Point.{Point}
 use Rattle.session.specs.declared.Session.{Session}
@@ -28,7 +27,6 @@ use Rattle.session.specs.Coordinates.{Coordinate, on_x, on_y, on_z, motion_on}
 use Rattle.session.specs.Moves.{estimate_of}
 use Rattle.session.specs.Ready.{PlacedPoint}
 use Rattle.session.specs.Requests.{exact_point, Request}
-use Rattle.steps.specs.declared.ReportedPoint.{ReportedPoint}
 use Rattle.steps.specs.Answers.{reported_motion, reported_point, no_point}
 use Rattle.steps.proofs.Given.{exact-point-placed}
 use Rattle.steps.specs.Opening.{axis_samples}

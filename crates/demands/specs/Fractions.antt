@@ -21,7 +21,7 @@ use Rattle.steps.specs.Answers.{no_point}
 use Rattle.steps.specs.Opening.{axis_samples}
 use Rattle.demands.specs.Coordinates.{position_of, velocity_of, position_in, velocity_in}
 use Rattle.demands.specs.Histories.{Implementation, Call, history, Event, predicting, correcting, withdrawing, refining, entries, samples_of}
-use Rattle.demands.specs.ClosedForm.{Origin, Begins, place, opening_samples, samples}
+use Rattle.demands.specs.ClosedForm.{Origin, Begins, place, samples}
 use Rattle.demands.specs.Demands.{start_number, refine_number}
 
 infixl 71 ◌⊖◌

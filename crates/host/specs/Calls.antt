@@ -1,8 +1,7 @@
 -- The calls on an image: the number that each returns, and what it leaves in the two slices. Definitions only.
-use Rattle.std.specs.Prelude.{ℕ, ◌≡◌, Bool, cond, List, eqb, Float, ℤ, length}
+use Rattle.std.specs.Prelude.{ℕ, ◌≡◌, Bool, cond, List, eqb, length}
 use Rattle.integers.specs.Tests.{◌and◌}
 use Rattle.ticks.specs.declared.Sample.{Sample}
-use Rattle.axis.specs.declared.Tolerances.{Tolerances}
 use Rattle.session.specs.declared.Session.{Session}
 use Rattle.session.specs.declared.WholePoint.{WholePoint}
 use Rattle.session.specs.Requests.{Request, request}

@@ -1,4 +1,4 @@
-// The calls from C: each is lent the bytes of a session's image and the bytes of its answer, and returns the number.
+// The calls of a host: each is lent the bytes of a session's image and the bytes of its answer, and returns the number. host_c exports them to C.
 #![tactic(auto)]
 
 ghost use Rattle.std.specs.Prelude.{◌≡◌};
@@ -18,8 +18,7 @@ use answering::leave;
 use held::{correct_held, predict_held, withdraw_held};
 use samples::open_from;
 
-#[unsafe(no_mangle)]
-pub extern "C" fn durungkilat_open(
+pub fn durungkilat_open(
     image: &mut [u8],
     answer: &mut [u8],
     points: usize,
@@ -61,8 +60,7 @@ pub extern "C" fn durungkilat_open(
     leave(image, answer, session, opening_answer(opening))
 }
 
-#[unsafe(no_mangle)]
-pub extern "C" fn durungkilat_predict(image: &mut [u8], answer: &mut [u8]) -> u32
+pub fn durungkilat_predict(image: &mut [u8], answer: &mut [u8]) -> u32
     ensures { Leaves (host_predict image.old answer.old) result image.new answer.new }
 {
     if answer.len() != 200 {
@@ -78,14 +76,7 @@ pub extern "C" fn durungkilat_predict(image: &mut [u8], answer: &mut [u8]) -> u3
     leave(image, answer, session, prediction_answer(prediction))
 }
 
-#[unsafe(no_mangle)]
-pub extern "C" fn durungkilat_correct(
-    image: &mut [u8],
-    answer: &mut [u8],
-    x: f64,
-    y: f64,
-    z: f64,
-) -> u32
+pub fn durungkilat_correct(image: &mut [u8], answer: &mut [u8], x: f64, y: f64, z: f64) -> u32
     ensures { Leaves (host_correct image.old answer.old (record { x = x; y = y; z = z })) result image.new answer.new }
 {
     if answer.len() != 200 {
@@ -102,8 +93,7 @@ pub extern "C" fn durungkilat_correct(
     leave(image, answer, session, correction_answer(correction))
 }
 
-#[unsafe(no_mangle)]
-pub extern "C" fn durungkilat_withdraw(image: &mut [u8], answer: &mut [u8]) -> u32
+pub fn durungkilat_withdraw(image: &mut [u8], answer: &mut [u8]) -> u32
     ensures { Leaves (host_withdraw image.old answer.old) result image.new answer.new }
 {
     if answer.len() != 200 {

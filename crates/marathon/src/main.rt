@@ -14,33 +14,37 @@ use calls::Seen;
 use console::{say, say_count, say_exact};
 use track::Track;
 
-fn say_line(name: &[u8], count: u64) {
-    say(name);
-    say_count(count);
-    say(b"\n");
+fn say_line(rt: &HostRuntime, name: &[u8], count: u64) {
+    say(rt, name);
+    say_count(rt, count);
+    say(rt, b"\n");
 }
 
 // The last point of an axis.
-fn say_track(name: &[u8], t: Track) {
-    say(name);
-    say_exact(t.last.position);
-    say_exact(t.last.velocity);
-    say(b"\n");
+fn say_track(rt: &HostRuntime, name: &[u8], t: Track) {
+    say(rt, name);
+    say_exact(rt, t.last.position);
+    say_exact(rt, t.last.velocity);
+    say(rt, b"\n");
 }
 
-fn say_seen(seen: Seen) {
-    say_line(b"accepted ", seen.accepted);
-    say_line(b"again ", seen.again);
-    say_line(b"withdrawn ", seen.withdrawn);
-    say_line(b"failed ", seen.failed);
+fn say_seen(rt: &HostRuntime, seen: Seen) {
+    say_line(rt, b"accepted ", seen.accepted);
+    say_line(rt, b"again ", seen.again);
+    say_line(rt, b"withdrawn ", seen.withdrawn);
+    say_line(rt, b"failed ", seen.failed);
 }
 
-fn main() {
+fn main(rt: HostRuntime) {
     let end = course::run(course::begin());
     let session = end.host.session;
-    say_track(b"x", end.x);
-    say_track(b"y", end.y);
-    say_track(b"z", end.z);
-    say_seen(end.host.seen);
-    say_line(b"one more is refused ", calls::refused_prediction(session));
+    say_track(&rt, b"x", end.x);
+    say_track(&rt, b"y", end.y);
+    say_track(&rt, b"z", end.z);
+    say_seen(&rt, end.host.seen);
+    say_line(
+        &rt,
+        b"one more is refused ",
+        calls::refused_prediction(session),
+    );
 }

@@ -2,15 +2,15 @@
 use mathlib.Core.Path.{◌≡◌, refl}
 use mathlib.Core.Bool.{Bool, true, false}
 use mathlib.Core.List.{List}
-use Prim.Native.Nat.{ℕ, zero, suc, ◌+◌, ◌*◌, ◌/◌, ◌%◌, ◌^◌, ◌≤◌, ◌<◌}
+use Prim.Native.Nat.{ℕ, zero, suc, ◌+◌, ◌/◌, ◌%◌, ◌^◌, ◌≤◌, ◌<◌}
 use native.Mathlib.Omega.{arith}
 use borrow.Author.Tests.{leb-true, le-leb, eqb-true, eq-eqb, ltb-true, ltb-false, lt-ltb, le-ltb}
 use lib.Dec.{ltb}
-use lib.IntN.{ℤ, pos, nat_abs}
+use lib.IntN.{ℤ, nat_abs}
 use lib.ListN.{length}
 use Rattle.integers.specs.Tests.{joined}
 use Rattle.integers.specs.Parts.{integers}
-use Rattle.rules.specs.Rules.{Decides, Decided, First, Exactly}
+use Rattle.rules.specs.Rules.{Decided, First, Exactly}
 use Rattle.rules.specs.Readings.{decides, opposite, none_left, by_itself, first-decided, first-exactly}
 use Rattle.text.specs.Numbers.{decimal}
 use Rattle.decimal.specs.Units.{position_units, velocity_units}
@@ -18,7 +18,7 @@ use Rattle.decimal.specs.Text.{digits_before, few_digits}
 use Rattle.message.specs.Request.{Request, count_of, place, value_at}
 use Rattle.message.specs.Message.{message}
 use Rattle.message.specs.Refusals.{all_of, exact_at, position_holds, velocity_holds, holds_as, value_holds, point_holds, points_hold, rules, refusal}
-use Rattle.message.specs.Table.{whole_at, rest_at, Between, Points, table}
+use Rattle.message.specs.Table.{Points, table}
 use Rattle.message.proofs.Runs.{all-at}
 use Rattle.message.proofs.TableForms.{formed-decided}
 

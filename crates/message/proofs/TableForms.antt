@@ -1,40 +1,31 @@
 -- The tests of names, times and settings decide the statement that a request is formed.
-use mathlib.Core.Path.{◌≡◌, refl, sym, ◌∙◌, ap}
+use mathlib.Core.Path.{◌≡◌, refl, ◌∙◌, ap}
 use mathlib.Core.Logic.{◌↔◌, ◌⊎◌, inl, inr}
-use mathlib.Core.Bool.{Bool, true, false, not, ◌||◌}
+use mathlib.Core.Bool.{Bool, true, false, ◌||◌}
 use mathlib.Core.List.{List, [], ◌∷◌, ◌++◌}
-use Prim.Native.Nat.{ℕ, zero, suc, ◌+◌, ◌-◌, ◌*◌, ◌/◌, ◌%◌, ◌^◌, ◌≤◌, ◌<◌}
+use Prim.Native.Nat.{ℕ, ◌+◌, ◌-◌, ◌*◌, ◌/◌}
 use Prim.Native.String.{String}
 use native.Mathlib.Omega.{arith}
-use borrow.Author.Tests.{leb-true, leb-false, le-leb, eqb-true, eqb-false, eq-eqb, ne_eqb, ltb-true, lt-ltb, le-ltb}
-use lib.Dec.{leb, ltb, eqb}
-use lib.IntN.{ℤ, pos, nat_abs}
+use borrow.Author.Tests.{leb-true, leb-false, le-leb, eqb-false, ne_eqb}
+use lib.Dec.{leb}
 use lib.ListN.{length, length-append, get_or}
-use Rattle.integers.specs.Tests.{◌and◌, joined, clash, passes, fails}
-use Rattle.integers.specs.Parts.{integers, neg-parts}
-use Rattle.rules.specs.Rules.{Decides, Decided, First, Exactly}
-use Rattle.rules.specs.Readings.{decides, opposite, none_left, by_itself, first-decided, first-exactly}
-use Rattle.text.specs.Numbers.{ascii, decimal}
-use Rattle.exact.specs.declared.Exact.{Exact}
-use Rattle.exact.specs.Numerator.{D, between}
-use Rattle.calendar.specs.declared.Moment.{Moment}
+use Rattle.integers.specs.Tests.{◌and◌, joined, clash, fails}
+use Rattle.rules.specs.Rules.{Decides}
+use Rattle.rules.specs.Readings.{decides}
+use Rattle.text.specs.Numbers.{ascii}
 use Rattle.calendar.specs.declared.Reading.{Reading}
 use Rattle.calendar.specs.declared.Reading.TheVariants as R
-use Rattle.calendar.specs.Calendar.{Within, Real, seconds_of, most_seconds}
-use Rattle.calendar.specs.Text.{time_text, time_in}
-use Rattle.calendar.specs.Back.{time-back, time-only, time-exactly}
+use Rattle.calendar.specs.Calendar.{Within, seconds_of, most_seconds}
+use Rattle.calendar.specs.Text.{time_in}
+use Rattle.calendar.specs.Back.{time-back, time-only}
 use Rattle.calendar.specs.Moments.{last-moment}
-use Rattle.decimal.specs.Units.{position_units, velocity_units}
-use Rattle.decimal.specs.Text.{digits_before, few_digits}
-use Rattle.message.specs.Request.{Request, count_of, place, value_at, seconds_in, seconds_at}
-use Rattle.message.specs.Message.{message}
+use Rattle.message.specs.Request.{Request, count_of, seconds_in, seconds_at}
 use Rattle.message.specs.Form.{has_between, all_between, one_case, name_holds, fits}
-use Rattle.message.specs.Refusals.{is_some, is_time, names_hold, settings_hold, ends_in_time, well_formed, all_of, exact_at, position_holds, velocity_holds, holds_as, value_holds, point_holds, points_hold, rules, refusal}
-use Rattle.message.specs.Table.{Every, Some, Name, Time, last_moment, Formed, whole_at, rest_at, Between, Points, table}
-use Rattle.message.proofs.Runs.{all-at}
+use Rattle.message.specs.Refusals.{is_some, is_time, names_hold, settings_hold, ends_in_time, well_formed}
+use Rattle.message.specs.Table.{Every, Some, Name, Time, Formed}
 use Rattle.message.proofs.Formed.{settings, is-time, seconds-are}
 use Rattle.message.proofs.Seconds.{in-time}
-use Rattle.message.proofs.Wholes.{Well, well, last-time}
+use Rattle.message.proofs.Wholes.{well, last-time}
 
 -- ---- names
 

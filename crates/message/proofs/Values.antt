@@ -1,5 +1,5 @@
 -- Laws of the values of a point: what their tests say, and how long their texts are.
-use mathlib.Core.Path.{◌≡◌, refl, sym, ◌∙◌, ap}
+use mathlib.Core.Path.{◌≡◌, refl}
 use mathlib.Core.Bool.{Bool, true, false, cond, and-eq-true_iff}
 use mathlib.Core.List.{List, ◌∷◌}
 use Prim.Native.Nat.{ℕ, ◌+◌, ◌*◌, ◌^◌, ◌≤◌, ◌<◌}
@@ -14,7 +14,7 @@ use Rattle.integers.specs.Tests.{◌and◌, joined, fails, passes, and_no, and_y
 use Rattle.exact.specs.declared.Exact.{Exact}
 use Rattle.exact.specs.Numerator.{D, between, Bounded}
 use Rattle.exact.specs.Bounds.{between-bounded}
-use Rattle.text.specs.Numbers.{ascii, decimal}
+use Rattle.text.specs.Numbers.{ascii}
 use Rattle.text.specs.Pieces.{length-flatten}
 use Rattle.calendar.specs.Calendar.{moment_of}
 use Rattle.calendar.specs.Back.{text-long}

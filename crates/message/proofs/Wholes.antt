@@ -1,17 +1,16 @@
 -- Laws of a whole request and of its message: what it is to be well formed, how long the text is, and its parts.
 use mathlib.Core.Path.{◌≡◌, refl, sym, ◌∙◌, ap, ap₂}
-use mathlib.Core.Bool.{Bool, true, false, and-eq-true_iff}
+use mathlib.Core.Bool.{true, false, and-eq-true_iff}
 use mathlib.Core.List.{List, [], ◌∷◌, ◌++◌, flatten, append-nil, append_assoc}
 use Prim.Native.Nat.{ℕ, ◌+◌, ◌-◌, ◌*◌, ◌/◌, ◌%◌, ◌^◌, ◌≤◌, ◌<◌}
 use native.Mathlib.Nat.{mul-le-mul_left}
 use native.Mathlib.Omega.{arith}
-use lib.Dec.{leb, eqb}
+use lib.Dec.{eqb}
 use lib.IntN.{ℤ}
 use lib.ListN.{length, length-append}
-use borrow.Author.Tests.{leb-true, eqb-true, eqb-false, ne_eqb, eq-eqb}
+use borrow.Author.Tests.{leb-true, ne_eqb, eq-eqb}
 use Rattle.integers.specs.Tests.{◌and◌, joined, fails, clash}
 use Rattle.text.specs.Numbers.{ascii}
-use Rattle.text.specs.Places.{total}
 use Rattle.text.specs.Pieces.{length-flatten}
 use Rattle.calendar.specs.declared.Reading.{Reading}
 use Rattle.calendar.specs.declared.Reading.TheVariants.{Time, Nothing}
@@ -22,7 +21,7 @@ use Rattle.message.specs.declared.Edition.{Edition}
 use Rattle.message.specs.declared.Edition.TheVariants.{Two}
 use Rattle.message.specs.Editions.{version_of}
 use Rattle.message.specs.Request.{Request, count_of, seconds_in, seconds_at}
-use Rattle.message.specs.Message.{entry, says, texts, line_from, lines_as, message_as, message}
+use Rattle.message.specs.Message.{entry, texts, line_from, lines_as, message_as, message}
 use Rattle.message.specs.Parts.{header_lines, name_lines, time_lines}
 use Rattle.message.specs.Form.{name_holds}
 use Rattle.message.specs.Refusals.{is_some, is_time, names_hold, settings_hold, ends_in_time, well_formed, all_of, point_holds, points_hold}

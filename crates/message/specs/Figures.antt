@@ -1,6 +1,6 @@
 -- A worked message in both editions, every character of it, and a request for each refusal.
 -- The texts are `scripts/leap_day.oem` and `scripts/leap_day_newer.oem`, which the independent peer wrote.
-use Rattle.std.specs.Prelude.{ℕ, ◌+◌, ◌*◌, Bool, true, false, ◌≡◌, refl, ltb, ℤ, pos, negsuc, length, get_or}
+use Rattle.std.specs.Prelude.{ℕ, true, ◌≡◌, refl, ltb, ℤ, pos, negsuc, length}
 use Prim.Native.String.{String}
 use Rattle.std.proofs.Common.{◌∙◌, ap₂}
 use Rattle.std.proofs.Math.Path.{ap}
@@ -11,7 +11,7 @@ use Rattle.exact.specs.Numerator.{numerator}
 use Rattle.rules.specs.Rules.{first_of}
 use Rattle.text.specs.Numbers.{ascii, decimal, digits, last_digits}
 use Rattle.calendar.specs.declared.Moment.{Moment}
-use Rattle.calendar.specs.Calendar.{leap, lengths, days_of_month, sum_to, days_of_year, days_before_year, days_before_month, is_real, Real, days_of, seconds_of, moment_of}
+use Rattle.calendar.specs.Calendar.{leap, lengths, days_of_month, sum_to, days_of_year, days_before_year, days_before_month, is_real, days_of, seconds_of}
 use Rattle.calendar.specs.Text.{time_text, value_at as number_at, moment_in, same_text, time_in}
 use Rattle.calendar.specs.Moments.{tested_real, moment-again}
 use Rattle.decimal.specs.Units.{position_units, velocity_units}
@@ -22,7 +22,7 @@ use Rattle.message.specs.Editions.{version_of}
 use Rattle.message.specs.Request.{Request, request, count_of, value_at, seconds_in, seconds_at}
 use Rattle.message.specs.Message.{entry, says, time_after, texts, value_text, field, line, line_from, message_as, message}
 use Rattle.message.specs.Form.{has_between, all_between, one_case, name_holds}
-use Rattle.message.specs.Refusals.{is_time, names_hold, settings_hold, ends_in_time, well_formed, all_of, exact_at, position_holds, velocity_holds, holds_as, value_holds, point_holds, points_hold, rules, refusal}
+use Rattle.message.specs.Refusals.{is_time, names_hold, settings_hold, ends_in_time, well_formed, all_of, exact_at, position_holds, velocity_holds, holds_as, value_holds, point_holds, points_hold, refusal}
 
 -- a tick of 1/16 metre and a minute between points: values on both sides of a tie, on ties, below zero and next to it; the second point stands
 -- in the leap day

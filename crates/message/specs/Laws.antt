@@ -5,10 +5,9 @@ use Rattle.std.proofs.Common.{sym, ◌∙◌, ap, arith, length-append}
 use mathlib.Core.List.{List, ◌∷◌, flatten}
 use Rattle.text.specs.Numbers.{ascii}
 use Rattle.calendar.specs.declared.Reading.TheVariants.{Time}
-use Rattle.calendar.specs.Calendar.{most_seconds, moment_of}
-use Rattle.calendar.specs.Text.{time_in, time_text}
+use Rattle.calendar.specs.Calendar.{most_seconds}
+use Rattle.calendar.specs.Text.{time_in}
 use Rattle.calendar.specs.Back.{time-exactly}
-use Rattle.message.specs.declared.Written.{Written}
 use Rattle.message.specs.declared.Edition.{Edition}
 use Rattle.message.specs.declared.Edition.TheVariants.{Two, Three}
 use Rattle.message.specs.Editions.{version_of}

@@ -9,7 +9,6 @@ use lib.Seq.{take_at}
 use borrow.Author.Tests.{leb-true}
 use Rattle.integers.specs.Tests.{joined}
 use Rattle.message.specs.declared.Edition.{Edition}
-use Rattle.received.specs.declared.Mended.{Mended}
 use Rattle.received.specs.Versions.{is_other}
 use Rattle.received.specs.Mending.{Change, Mend, Mends, Cannot, mend_of, words}
 use Rattle.received.specs.MendAnswer.{unmended, has_rooms, mended_by, out_by, changes_by, mended_to, out_after, changes_after}

@@ -1,13 +1,13 @@
 -- The first bytes of a buffer: one line, and a message or the number that refuses it.
 use mathlib.Core.Path.{◌≡◌, refl, sym, ◌∙◌, ap}
 use mathlib.Core.Bool.{Bool, true, false, cond}
-use mathlib.Core.List.{List, ◌++◌, flatten}
+use mathlib.Core.List.{List, ◌++◌}
 use Prim.Native.Nat.{ℕ, zero, suc, ◌+◌, ◌^◌, ◌≤◌, ◌<◌, min}
 use native.Mathlib.Nat.{min-eq_left, min-eq_right, min-le_right}
 use native.Mathlib.Omega.{arith}
 use lib.ListN.{length, take, drop, length-append}
 use lib.Seq.{take_at, take-append-le}
-use Rattle.text.specs.Numbers.{ascii, decimal}
+use Rattle.text.specs.Numbers.{decimal}
 use Rattle.text.specs.Digits.{length-decimal}
 use Rattle.text.specs.Places.{Wrote, written}
 use Rattle.text.specs.Pieces.{up-to-end}

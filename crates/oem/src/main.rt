@@ -9,32 +9,37 @@ mod reading;
 mod reading_messages;
 mod writing;
 
+use std::env::Env;
+
 fn is_write(word: &[u8]) -> bool {
-    check::same(word, b"write")
+    word == b"write".as_slice()
 }
 
 fn is_read(word: &[u8]) -> bool {
-    check::same(word, b"read")
+    word == b"read".as_slice()
 }
 
 fn is_mend(word: &[u8]) -> bool {
-    check::same(word, b"mend")
+    word == b"mend".as_slice()
 }
 
-fn main() {
-    let mut word = io::buffer();
-    let n = os::arg(1, &mut word);
+fn main(rt: HostRuntime) {
+    let mut word = [0u8; 4096];
+    let n = match rt.arg(1, &mut word) {
+        Ok(n) => n,
+        Err(_) => 0,
+    };
     if is_write(&word[..n]) {
-        writing::run();
+        writing::run(&rt);
         return;
     }
     if is_read(&word[..n]) {
-        reading_messages::run();
+        reading_messages::run(&rt);
         return;
     }
     if is_mend(&word[..n]) {
-        mending::run();
+        mending::run(&rt);
         return;
     }
-    output::put_error(b"oem: the first argument is write, read or mend\n");
+    output::put_error(&rt, b"oem: the first argument is write, read or mend\n");
 }

@@ -11,12 +11,12 @@ use received::{Mended, mend_message};
 use reports::put_list;
 
 // Room for a message of 1,100,000 bytes and a byte that is too many, for the mended one, for 65,536 changes, and for their list.
-pub(crate) fn run() {
+pub(crate) fn run(rt: &HostRuntime) {
     let mut input = [0u8; 1_100_001];
     let mut mended = [0u8; 1_100_100];
     let mut changes = [0u64; 131_072];
     let mut list = [0u8; 2_097_184];
-    serve(&mut input, &mut mended, &mut changes, &mut list);
+    serve(rt, &mut input, &mut mended, &mut changes, &mut list);
 }
 
 // The changes, or the number that refuses, from the start of the buffer.
@@ -47,22 +47,27 @@ fn mend(text: &[u8], mended: &mut [u8], changes: &mut [u64], list: &mut [u8]) ->
 }
 
 // Reads, mends, and writes once everything is known.
-fn serve(input: &mut [u8], mended: &mut [u8], changes: &mut [u64], list: &mut [u8])
+fn serve(
+    rt: &HostRuntime,
+    input: &mut [u8],
+    mended: &mut [u8],
+    changes: &mut [u64],
+    list: &mut [u8],
+)
     requires { 32 + 16 * length changes.old ≤ length list.old }
 {
-    let read = read_all(input);
+    let read = read_all(rt, input);
     let held = read.held;
     if read.failed {
-        os::fail(b"oem: standard input");
         return;
     }
     if held == input.len() {
-        put_error(b"a message has at most 1100000 bytes\n");
+        put_error(rt, b"a message has at most 1100000 bytes\n");
         return;
     }
     let done = mend(&input[..held], mended, changes, list);
     let written = done.written;
     let listed = done.listed;
-    put(&mended[..written]);
-    put_error(&list[..listed]);
+    put(rt, &mended[..written]);
+    put_error(rt, &list[..listed]);
 }

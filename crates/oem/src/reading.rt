@@ -1,5 +1,8 @@
 // Standard input, read to its end.
-ghost use Rattle.std.specs.Prelude.{◌≤◌, length};
+ghost use Rattle.std.specs.Prelude.{◌+◌, ◌≤◌, length, IfOk};
+
+use crate::output::fail;
+use std::io::{Read, Result};
 
 // How many bytes came, and whether a read failed.
 #[derive(Clone, Copy)]
@@ -8,28 +11,29 @@ pub(crate) struct Input {
     pub(crate) failed: bool,
 }
 
-// The bytes of one read, after those that are held; below 0 where it failed.
-fn read_more(input: &mut [u8], held: usize) -> isize
+// How many bytes one read put after those that are held.
+fn read_more(rt: &HostRuntime, input: &mut [u8], held: usize) -> Result<usize>
     requires { held ≤ length input.old }
+    ensures { IfOk result (λ more. held + more ≤ length input.old) }
 {
-    libc::read(libc::STDIN_FILENO, &mut input[held..])
+    let mut stdin = rt.stdin();
+    stdin.read(&mut input[held..])
 }
 
-// A buffer that is full afterwards may have left bytes unread.
-pub(crate) fn read_all(input: &mut [u8]) -> Input
+// A buffer that is full afterwards may have left bytes unread. A read that fails is told on standard error.
+pub(crate) fn read_all(rt: &HostRuntime, input: &mut [u8]) -> Input
     ensures { result.held ≤ length input.old }
 {
     let mut held = 0;
     while held < input.len() {
-        let got = read_more(input, held);
-        if got < 0 {
-            return Input { held, failed: true };
+        match read_more(rt, input, held) {
+            Err(error) => {
+                fail(rt, "oem: standard input", error);
+                return Input { held, failed: true };
+            }
+            Ok(0) => break,
+            Ok(more) => held += more,
         }
-        let more = io::count(got, &input[held..]);
-        if more == 0 {
-            break;
-        }
-        held += more;
     }
     Input {
         held,

@@ -9,12 +9,12 @@ use received::read_either;
 use reports::put_report;
 
 // Room for a message of 1,100,000 bytes and a byte that is too many, for the 13,253 points that it can have, and for what is printed of them.
-pub(crate) fn run() {
+pub(crate) fn run(rt: &HostRuntime) {
     let mut input = [0u8; 1_100_001];
     let mut epochs = [0u64; 13_253];
     let mut values = [0i64; 79_518];
     let mut out = [0u8; 2_029_308];
-    serve(&mut input, &mut epochs, &mut values, &mut out);
+    serve(rt, &mut input, &mut epochs, &mut values, &mut out);
 }
 
 // What is printed for a text, from the start of the buffer.
@@ -28,20 +28,19 @@ fn report(text: &[u8], epochs: &mut [u64], values: &mut [i64], out: &mut [u8]) -
 }
 
 // Reads, and prints once everything is known.
-fn serve(input: &mut [u8], epochs: &mut [u64], values: &mut [i64], out: &mut [u8])
+fn serve(rt: &HostRuntime, input: &mut [u8], epochs: &mut [u64], values: &mut [i64], out: &mut [u8])
     requires input_len { (length input.old ≡ 1100001) × (2029308 ≤ length out.old) }
     requires epochs_len { (length epochs.old ≡ 13253) × (length values.old ≡ 79518) }
 {
-    let read = read_all(input);
+    let read = read_all(rt, input);
     let held = read.held;
     if read.failed {
-        os::fail(b"oem: standard input");
         return;
     }
     if held == input.len() {
-        put(b"a message has at most 1100000 bytes\n");
+        put(rt, b"a message has at most 1100000 bytes\n");
         return;
     }
     let length = report(&input[..held], epochs, values, out);
-    put(&out[..length]);
+    put(rt, &out[..length]);
 }

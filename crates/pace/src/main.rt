@@ -8,21 +8,21 @@ mod sums;
 
 use run::Run;
 
-fn complain(line: &[u8]) {
-    io::write_all(libc::STDERR_FILENO, line);
+fn complain(rt: &HostRuntime, line: &[u8]) {
+    let _taken = rt.stderr().write_all(line).is_ok();
 }
 
-fn show(end: Run) {
+fn show(rt: &HostRuntime, end: Run) {
     if end.refused {
-        complain(b"pace: an answer was refused\n");
+        complain(rt, b"pace: an answer was refused\n");
         return;
     }
-    io::print_hex(libc::STDOUT_FILENO, end.sum, 16);
-    io::write_all(libc::STDOUT_FILENO, b"\n");
+    let sum = end.sum;
+    let _taken = println!(rt; "{sum:016x}").is_ok();
 }
 
 // Whether P and STEPS are numbers to run with.
-fn ran(points: u64, steps: u64) -> bool {
+fn ran(rt: &HostRuntime, points: u64, steps: u64) -> bool {
     if points < 1 {
         return false;
     }
@@ -32,15 +32,18 @@ fn ran(points: u64, steps: u64) -> bool {
     if 1_000_000 < steps {
         return false;
     }
-    show(run::paced(points as usize, steps));
+    show(rt, run::paced(points as usize, steps));
     true
 }
 
-fn main() {
-    if os::arg_count() == 3 {
-        if ran(arguments::number(1), arguments::number(2)) {
+fn main(rt: HostRuntime) {
+    if arguments::is_given(&rt, 2) & !arguments::is_given(&rt, 3) {
+        if ran(&rt, arguments::number(&rt, 1), arguments::number(&rt, 2)) {
             return;
         }
     }
-    complain(b"pace: give P, from 1 to 9, and STEPS, from 0 to 1000000\n");
+    complain(
+        &rt,
+        b"pace: give P, from 1 to 9, and STEPS, from 0 to 1000000\n",
+    );
 }

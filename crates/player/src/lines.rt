@@ -34,14 +34,14 @@ fn newline(input: &[u8], from: usize, end: usize) -> usize
 }
 
 // Writes the first bytes of the output: whether they were taken.
-pub(crate) fn write_out(out: &[u8], written: usize) -> bool
+pub(crate) fn write_out(rt: &HostRuntime, out: &[u8], written: usize) -> bool
     requires { written ≤ length out.now }
 {
-    io::write_all(libc::STDOUT_FILENO, &out[..written])
+    rt.write_all(&out[..written]).is_ok()
 }
 
 // Output with room for an answer: what it holds is written where it leaves none.
-fn make_room(out: &[u8], written: usize) -> Room
+fn make_room(rt: &HostRuntime, out: &[u8], written: usize) -> Room
     requires written_in_bounds { written ≤ length out.now }
     requires in_bounds { 8192 ≤ length out.now }
     ensures { result.at + 8192 ≤ length out.now }
@@ -52,7 +52,7 @@ fn make_room(out: &[u8], written: usize) -> Room
             taken: true,
         };
     }
-    let taken = write_out(out, written);
+    let taken = write_out(rt, out, written);
     Room { at: 0, taken }
 }
 
@@ -109,13 +109,20 @@ fn tell_record(out: &mut [u8], answered: Answered) -> usize
 }
 
 // One line, which ends before `next`.
-fn take_line(voice: Voice, out: &mut [u8], p: Progress, line: &[u8], next: usize) -> Progress
+fn take_line(
+    rt: &HostRuntime,
+    voice: Voice,
+    out: &mut [u8],
+    p: Progress,
+    line: &[u8],
+    next: usize,
+) -> Progress
     requires written_in_bounds { p.written ≤ length out.old }
     requires in_bounds { 8192 ≤ length out.old }
     ensures written_in_bounds_2 { result.written ≤ length out.old }
     ensures used_value { result.used ≡ next }
 {
-    let room = make_room(out, p.written);
+    let room = make_room(rt, out, p.written);
     let s = p.session;
     let count = std::num::wrapping_add_u64(p.count, 1);
     if !room.taken {
@@ -144,6 +151,7 @@ fn take_line(voice: Voice, out: &mut [u8], p: Progress, line: &[u8], next: usize
 
 // Every whole line of the first `end` bytes.
 fn answer_lines(
+    rt: &HostRuntime,
     voice: Voice,
     input: &[u8],
     end: usize,
@@ -169,7 +177,7 @@ fn answer_lines(
         if stop == end {
             break;
         }
-        p = take_line(voice, out, p, &input[from..stop], stop + 1);
+        p = take_line(rt, voice, out, p, &input[from..stop], stop + 1);
         if p.over {
             break;
         }
@@ -179,7 +187,13 @@ fn answer_lines(
 }
 
 // The bytes after the last newline are no call where the input is over or they are too many.
-fn finish(out: &mut [u8], p: Progress, got: usize, end: usize) -> Progress
+fn finish(
+    rt: &HostRuntime,
+    out: &mut [u8],
+    p: Progress,
+    got: usize,
+    end: usize,
+) -> Progress
     requires used_le_end { p.used ≤ end }
     requires written_in_bounds { p.written ≤ length out.old }
     requires in_bounds { 8192 ≤ length out.old }
@@ -191,7 +205,7 @@ fn finish(out: &mut [u8], p: Progress, got: usize, end: usize) -> Progress
         return ended(p, got == 0);
     }
     if (got == 0) | (4096 < rest) {
-        return no_line(out, p);
+        return no_line(rt, out, p);
     }
     p
 }
@@ -211,13 +225,13 @@ fn ended(p: Progress, over: bool) -> Progress
     }
 }
 
-fn no_line(out: &mut [u8], p: Progress) -> Progress
+fn no_line(rt: &HostRuntime, out: &mut [u8], p: Progress) -> Progress
     requires written_in_bounds { p.written ≤ length out.old }
     requires in_bounds { 8192 ≤ length out.old }
     ensures written_in_bounds_2 { result.written ≤ length out.old }
     ensures used_value { result.used ≡ p.used }
 {
-    let room = make_room(out, p.written);
+    let room = make_room(rt, out, p.written);
     let s = p.session;
     stop(
         out,
@@ -230,6 +244,7 @@ fn no_line(out: &mut [u8], p: Progress) -> Progress
 
 // The answers to a piece of input: `got` new bytes, `end` with those that were held.
 pub(crate) fn answer_piece(
+    rt: &HostRuntime,
     voice: Voice,
     input: &[u8],
     got: usize,
@@ -243,6 +258,6 @@ pub(crate) fn answer_piece(
     ensures written_in_bounds { result.written ≤ length out.old }
     ensures used_le_end { result.used ≤ end }
 {
-    let p = answer_lines(voice, input, end, out, s, count);
-    finish(out, p, got, end)
+    let p = answer_lines(rt, voice, input, end, out, s, count);
+    finish(rt, out, p, got, end)
 }

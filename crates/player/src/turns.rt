@@ -4,14 +4,18 @@ ghost use Rattle.std.specs.Prelude.{◌+◌, ◌≤◌, length};
 use crate::Voice;
 use crate::lines::{answer_piece, write_out};
 use session::Session;
+use std::io::Read;
 
-// One piece of input after the bytes that are held from the piece before: how many bytes came.
-fn read_piece(input: &mut [u8], held: usize) -> usize
+// One piece of input after the bytes that are held from the piece before: how many bytes came. None come where a read fails.
+fn read_piece(rt: &HostRuntime, input: &mut [u8], held: usize) -> usize
     requires { held ≤ length input.old }
     ensures { held + result ≤ length input.old }
 {
-    let got = libc::read(libc::STDIN_FILENO, &mut input[held..]);
-    io::count(got, &input[held..])
+    let mut stdin = rt.stdin();
+    match stdin.read(&mut input[held..]) {
+        Ok(got) => got,
+        Err(_) => 0,
+    }
 }
 
 // Moves the bytes from `from` to `end` to the start.
@@ -39,16 +43,22 @@ struct Place {
 }
 
 // Reads a piece, answers its lines, and writes the answers.
-fn turn(voice: Voice, input: &mut [u8], out: &mut [u8], place: Place) -> Place
+fn turn(
+    rt: &HostRuntime,
+    voice: Voice,
+    input: &mut [u8],
+    out: &mut [u8],
+    place: Place,
+) -> Place
     requires held_in_bounds { place.held ≤ length input.old }
     requires in_bounds { 8192 ≤ length out.old }
     ensures { result.held ≤ length input.old }
 {
     let s = place.session;
-    let got = read_piece(input, place.held);
+    let got = read_piece(rt, input, place.held);
     let end = place.held + got;
-    let p = answer_piece(voice, input, got, end, out, s, place.count);
-    let taken = write_out(out, p.written);
+    let p = answer_piece(rt, voice, input, got, end, out, s, place.count);
+    let taken = write_out(rt, out, p.written);
     let held = keep(input, p.used, end);
     let session = p.session;
     Place {
@@ -59,7 +69,7 @@ fn turn(voice: Voice, input: &mut [u8], out: &mut [u8], place: Place) -> Place
     }
 }
 
-fn run(voice: Voice, input: &mut [u8], out: &mut [u8])
+fn run(rt: &HostRuntime, voice: Voice, input: &mut [u8], out: &mut [u8])
     requires { 8192 ≤ length out.old }
 {
     let session = session::closed();
@@ -71,7 +81,7 @@ fn run(voice: Voice, input: &mut [u8], out: &mut [u8])
     };
     let mut turns: u64 = 18_446_744_073_709_551_615;
     while turns > 0 {
-        place = turn(voice, input, out, place);
+        place = turn(rt, voice, input, out, place);
         if place.over {
             return;
         }
@@ -80,8 +90,8 @@ fn run(voice: Voice, input: &mut [u8], out: &mut [u8])
 }
 
 // Plays the script of standard input, to its end or to a line that is no call.
-pub fn play(voice: Voice) {
-    let mut input = io::large_buffer();
-    let mut output = io::large_buffer();
-    run(voice, &mut input, &mut output);
+pub fn play(rt: &HostRuntime, voice: Voice) {
+    let mut input = [0u8; 65_536];
+    let mut output = [0u8; 65_536];
+    run(rt, voice, &mut input, &mut output);
 }

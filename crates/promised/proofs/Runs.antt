@@ -1,10 +1,9 @@
 -- What the promises allow is what our six functions give, call by call and over any calls.
-use mathlib.Core.Path.{◌≡◌, refl, sym, ap, ◌∙◌}
-use mathlib.Core.List.{List, [], ◌∷◌}
-use lib.Ieee.{Float}
+use mathlib.Core.Path.{◌≡◌, refl, ap, ◌∙◌}
+use mathlib.Core.List.{List, ◌∷◌}
 use Rattle.session.specs.declared.Session.{Session}
-use Rattle.demands.specs.Histories.{Implementation, ours, Call, predict, correct, withdraw, refine, Event, predicting, correcting, withdrawing, refining, step, event, after, history, Act, opening, beginning, calling, lived}
-use Rattle.promised.specs.Runs.{Allowed, predicted, corrected, withdrawn, refined, Runs, untouched, then, Lives, new, opened, begun, called, Keeps}
+use Rattle.demands.specs.Histories.{ours, Call, Event, predicting, correcting, withdrawing, refining, step, event, after, history, Act, lived}
+use Rattle.promised.specs.Runs.{Allowed, predicted, corrected, withdrawn, refined, Runs, untouched, then, Lives, new, opened, begun, called}
 
 -- ---- a call
 

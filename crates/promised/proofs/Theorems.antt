@@ -1,5 +1,5 @@
 -- What is said of every result that the promises allow, shown: it is what our six functions give, and of those `demands` has shown it.
-use mathlib.Core.Path.{◌≡◌, refl, sym, ap, ◌∙◌, subst}
+use mathlib.Core.Path.{◌≡◌, sym, ap, ◌∙◌, subst}
 use mathlib.Core.List.{List}
 use Rattle.session.specs.declared.Session.{Session}
 use Rattle.demands.specs.Histories.{Implementation, ours, Call, Event, after, history, entries, samples_of}
@@ -9,7 +9,7 @@ use Rattle.demands.specs.Before.{bare}
 use Rattle.demands.specs.ClosedForm.{Origin, Begins}
 use Rattle.demands.proofs.Theorems.{our-calls}
 use Rattle.promised.specs.Runs.{Runs, Keeps}
-use Rattle.promised.specs.Theorems.{One, Meets, Keeping, Counting, Together, Promised}
+use Rattle.promised.specs.Theorems.{Meets, Keeping, Counting, Together, Promised}
 use Rattle.promised.proofs.Runs.{run-left, run-told, life-left}
 
 -- both are one pair

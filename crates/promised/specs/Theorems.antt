@@ -6,13 +6,9 @@ use Rattle.session.specs.declared.State.TheVariants.{Settled, Awaiting}
 use Rattle.session.specs.Coordinates.{Coordinate}
 use Rattle.session.specs.Moves.{present_point}
 use Rattle.session.specs.Requests.{Request}
-use Rattle.steps.specs.declared.Opening.{Opening}
 use Rattle.steps.specs.declared.Opening.TheVariants as O
-use Rattle.steps.specs.declared.Prediction.{Prediction}
 use Rattle.steps.specs.declared.Prediction.TheVariants as P
-use Rattle.steps.specs.declared.Correction.{Correction}
 use Rattle.steps.specs.declared.ReportedPoint.{ReportedPoint}
-use Rattle.steps.specs.declared.Withdrawal.{Withdrawal}
 use Rattle.epoch_steps.specs.declared.RoundAnswer.{RoundAnswer}
 use Rattle.epoch_steps.specs.declared.Outcome.TheVariants as R
 use Rattle.demands.specs.Coordinates.{position_of, velocity_of}

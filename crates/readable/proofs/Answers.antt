@@ -7,7 +7,7 @@ use Prim.Native.Nat.{ℕ}
 use native.Mathlib.Omega.{arith}
 use lib.IntN.{ℤ}
 use lib.ListN.{length}
-use Rattle.integers.specs.Tests.{clash, fails}
+use Rattle.integers.specs.Tests.{fails}
 use Rattle.message.specs.declared.Edition.{Edition}
 use Rattle.received.specs.Versions.{is_other}
 use Rattle.received.specs.Data.{Point}

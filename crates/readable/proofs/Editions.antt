@@ -12,14 +12,12 @@ use Rattle.text.specs.Numbers.{ascii}
 use Rattle.message.specs.declared.Edition.{Edition}
 use Rattle.message.specs.declared.Edition.TheVariants.{Two, Three}
 use Rattle.message.specs.Editions.{version_of}
-use Rattle.message.specs.Message.{says}
 use Rattle.received.specs.Lines.{newline}
-use Rattle.received.specs.Versions.{version_front, named_in, is_other, edition_in}
+use Rattle.received.specs.Versions.{version_front, is_other, edition_in}
 use Rattle.received.specs.Data.{line_of}
 use Rattle.received.specs.Messages.{Readable}
 use Rattle.received.specs.Answer.{refused_by, answer_to, epochs_after, values_after}
 use Rattle.received.specs.Mending.{Change, Mends, mend_of}
-use Rattle.readable.specs.Lines.{Plain}
 use Rattle.readable.specs.Naming.{Names, NamesOther}
 use Rattle.readable.specs.Answering.{head_in}
 use Rattle.readable.proofs.Heads.{says-line}

@@ -2,13 +2,12 @@
 use mathlib.Core.Path.{◌≡◌, refl, sym, ◌∙◌, ap}
 use mathlib.Core.Logic.{◌↔◌}
 use mathlib.Core.Bool.{Bool, true, false, cond}
-use mathlib.Core.List.{List, flatten}
+use mathlib.Core.List.{List}
 use Prim.Native.Nat.{ℕ}
 use native.Mathlib.Omega.{arith}
 use lib.ListN.{length}
 use Rattle.integers.specs.Tests.{clash, fails}
 use Rattle.message.specs.declared.Edition.{Edition}
-use Rattle.received.specs.declared.Mended.{Mended}
 use Rattle.received.specs.Versions.{is_other}
 use Rattle.received.specs.Mending.{Change, Mend, Mends, Cannot, mend_of}
 use Rattle.received.specs.MendAnswer.{unmended, has_rooms, mended_by, out_by, changes_by, mended_to, out_after, changes_after}

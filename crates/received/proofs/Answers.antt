@@ -1,11 +1,11 @@
 -- What is answered, and what the rooms hold, by what was found in the text.
-use mathlib.Core.Path.{◌≡◌, refl, sym, ◌∙◌, ap, subst}
+use mathlib.Core.Path.{◌≡◌, refl, sym, ◌∙◌, ap}
 use mathlib.Core.Bool.{Bool, true, false, cond}
 use mathlib.Core.List.{List, [], ◌∷◌, ◌++◌, flatten, map}
-use Prim.Native.Nat.{ℕ, zero, suc, ◌+◌, ◌*◌, ◌≤◌, ◌<◌}
+use Prim.Native.Nat.{ℕ, suc, ◌*◌, ◌≤◌, ◌<◌}
 use native.Mathlib.Omega.{arith}
 use lib.IntN.{ℤ}
-use lib.ListN.{length, drop, length-append}
+use lib.ListN.{length, drop}
 use borrow.Author.Tests.{leb-true}
 use Rattle.integers.specs.Tests.{joined}
 use Rattle.calendar.specs.Text.{same_text}
@@ -15,8 +15,7 @@ use Rattle.received.specs.declared.Received.{Received}
 use Rattle.received.specs.declared.judging.Judged.{Judged}
 use Rattle.received.specs.Lines.{lines_in}
 use Rattle.received.specs.Versions.{is_other}
-use Rattle.received.specs.Slots.{Walked, Through, Stopped, walk}
-use Rattle.received.specs.Profile.{slots}
+use Rattle.received.specs.Slots.{Walked, Through, Stopped}
 use Rattle.received.specs.Data.{Point, datum_in, point_in, accepts, points_in, first_seconds, last_seconds}
 use Rattle.received.specs.Reading.{Read, Reads, Stops, rest_at, number_at, unless, all_read, read_behind, read_by, read_lines, read_of}
 use Rattle.received.specs.Answer.{has_room, seconds_of, values_of, refused_by, received, answer_by, epochs_by, values_by, answer_to, epochs_after, values_after}
@@ -135,7 +134,7 @@ module _ (e : Edition) (text epochs : List ℕ) (values : List ℤ) {j : Judged}
     pub within : j.at ≤ length text
     within =
         let w = found e text f.reads in
-        omega (arith, f.at-is, ap length (sym (lines-back text) ∙ ap flatten w.lines-are), bytes-append (flatten f.groups) w.rest)
+        omega (arith, f.at-is, ap length (sym (lines-back text) ∙ ap flatten w.lines_are), bytes-append (flatten f.groups) w.rest)
 
     pub through : is_through (walk_over e text) ≡ true
     through = (found e text f.reads).through

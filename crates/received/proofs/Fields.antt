@@ -9,7 +9,7 @@ use lib.Dec.{eqb, ltb}
 use lib.IntN.{ℤ}
 use lib.ListN.{length, take, drop, get_or, set, length-set, length-drop, drop_of_length-le, get_or-eq_default}
 use lib.Seq.{take-suc-set, take_all, drop-cons}
-use borrow.Author.Tests.{eq-eqb, ne_eqb, lt-ltb, le-ltb}
+use borrow.Author.Tests.{eq-eqb, ne_eqb}
 use Rattle.integers.specs.Tests.{◌and◌, fails}
 use Rattle.text.specs.Numbers.{ascii}
 use Rattle.text.specs.declared.Signed.TheVariants.{Number}
@@ -17,7 +17,6 @@ use Rattle.calendar.specs.Text.{same_text}
 use Rattle.calendar.specs.Back.{same_true}
 use Rattle.decimal.specs.Text.{few_digits, position_fits, velocity_fits}
 use Rattle.decimal.specs.Reading.{fixed_at}
-use Rattle.received.specs.declared.data.Field.{Field}
 use Rattle.received.specs.Data.{decimals_of, no_field, field_by, field_at, field_start, value_in, first_ones}
 
 -- ---- one field

@@ -5,10 +5,10 @@ use mathlib.Core.List.{List, [], ◌∷◌, ◌++◌}
 use Prim.Native.Nat.{ℕ, suc, ◌+◌, ◌-◌, ◌≤◌, ◌<◌}
 use native.Mathlib.Omega.{arith}
 use lib.Dec.{eqb}
-use lib.ListN.{length, take, drop, get_or, length-append, length-drop, take-append-drop, drop_of_length-le}
+use lib.ListN.{length, take, drop, get_or, length-append, take-append-drop, drop_of_length-le}
 use lib.Seq.{take-append_seam, drop-append_seam, get_or-append-add, get_or-append_seam, drop-drop, drop-cons}
 use borrow.Author.Tests.{eqb-true, eq-eqb, ne_eqb}
-use Rattle.integers.specs.Tests.{◌and◌, joined, clash, fails, agree, and_no, and_yes}
+use Rattle.integers.specs.Tests.{joined, clash, fails, agree, and_no, and_yes}
 use Rattle.calendar.specs.Text.{same_text}
 use Rattle.calendar.specs.Back.{same_true, same_refl}
 use Rattle.message.specs.Form.{all_between}

@@ -1,6 +1,6 @@
 -- Groups that fill the slots are the lines of the message that they say.
 use mathlib.Core.Path.{◌≡◌, refl, sym, ◌∙◌, ap, subst}
-use mathlib.Core.Bool.{Bool, true, false}
+use mathlib.Core.Bool.{Bool, true}
 use mathlib.Core.List.{List, [], ◌∷◌, ◌++◌, flatten, map, append_assoc}
 use Prim.Native.Nat.{ℕ, zero, suc, ◌+◌, ◌<◌}
 use Prim.Native.String.{String}
@@ -12,10 +12,10 @@ use Rattle.calendar.specs.Back.{same_true}
 use Rattle.message.specs.declared.Edition.{Edition}
 use Rattle.message.specs.Editions.{version_of}
 use Rattle.message.specs.Message.{entry, says}
-use Rattle.received.specs.Slots.{line_with, rest_in, is_of, Slot, perhaps, any, form_of, AllOf, Fills, FillAll}
-use Rattle.received.specs.Profile.{saying, is_remark, text_behind, comment_form, has_more, further, slots}
+use Rattle.received.specs.Slots.{line_with, rest_in, is_of, perhaps, any, form_of, AllOf, Fills, FillAll}
+use Rattle.received.specs.Profile.{saying, text_behind, comment_form, has_more, further, slots}
 use Rattle.received.specs.Data.{Point}
-use Rattle.received.specs.Messages.{Message, comment, head_of, Every, Remarks, Further, IsPoint, Rising, Holds}
+use Rattle.received.specs.Messages.{comment, head_of, Every, Remarks, Further, IsPoint, Rising, Holds}
 use Rattle.received.specs.Reading.{slot_at, front_at, line_at, rest_at, message_in}
 use Rattle.received.specs.Finding.{is_one}
 use Rattle.received.proofs.Fronts.{front-is, of-front, of-rest}

@@ -1,8 +1,8 @@
 -- What is found in a whole text, by what its parts gave.
-use mathlib.Core.Path.{◌≡◌, refl, sym, ◌∙◌, ap, subst}
+use mathlib.Core.Path.{◌≡◌, refl, sym, ◌∙◌, ap}
 use mathlib.Core.Bool.{Bool, true, false}
-use mathlib.Core.List.{List, [], ◌∷◌, ◌++◌, flatten, map}
-use Prim.Native.Nat.{ℕ, suc, ◌+◌, ◌≤◌, ◌<◌}
+use mathlib.Core.List.{List, flatten}
+use Prim.Native.Nat.{ℕ, ◌+◌}
 use native.Mathlib.Omega.{arith}
 use lib.ListN.{length, take, drop}
 use lib.Seq.{take_all}
@@ -16,8 +16,8 @@ use Rattle.received.specs.Lines.{lines_in}
 use Rattle.received.specs.Slots.{Walked, Through, Stopped, walk}
 use Rattle.received.specs.Profile.{slots}
 use Rattle.received.specs.Data.{Point, points_in, first_seconds, last_seconds}
-use Rattle.received.specs.Reading.{Read, Reads, Stops, rest_at, number_at, unless, all_read, read_behind, read_by, read_lines, read_of}
-use Rattle.received.specs.Finding.{bytes_of, spot, spot_from, groups_of, is_through, walk_over, scanned_by, scanned_of, judged_by}
+use Rattle.received.specs.Reading.{Read, Stops, rest_at, number_at, unless, all_read, read_behind, read_by, read_lines, read_of}
+use Rattle.received.specs.Finding.{bytes_of, spot_from, groups_of, is_through, walk_over, scanned_by, scanned_of, judged_by}
 use Rattle.received.proofs.Cuts.{lines-drop}
 use Rattle.received.proofs.Walks.{Sound, walk-sound}
 use Rattle.received.proofs.Reached.{filled, slot-begins}

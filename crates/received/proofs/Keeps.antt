@@ -1,7 +1,7 @@
 -- The points of data lines one after another, and the rooms that they fill from their starts.
 use mathlib.Core.Path.{◌≡◌, refl, sym, ◌∙◌, ap, subst}
 use mathlib.Core.List.{List, [], ◌∷◌, ◌++◌, map, flatten, append-nil, append_assoc}
-use Prim.Native.Nat.{ℕ, suc, ◌+◌, ◌-◌, ◌*◌, ◌≤◌, ◌<◌}
+use Prim.Native.Nat.{ℕ, suc, ◌+◌, ◌*◌, ◌≤◌, ◌<◌}
 use native.Mathlib.Nat.{add-zero}
 use native.Mathlib.Numerals.{add-one}
 use native.Mathlib.Omega.{arith}
@@ -9,7 +9,7 @@ use lib.IntN.{ℤ}
 use lib.ListN.{length, take, drop, set, length-set, take-append-drop}
 use lib.Seq.{paste, take-paste, drop-paste, length-paste, take_all, drop-drop, take-suc-set, drop-set-lt}
 use Rattle.received.specs.Lines.{lines_in, past_line}
-use Rattle.received.specs.Data.{Point, first_ones, datum_by, datum_in, point_in, value_in}
+use Rattle.received.specs.Data.{datum_in, point_in, value_in}
 use Rattle.received.specs.Answer.{seconds_of, values_of}
 use Rattle.received.proofs.Cuts.{between, past_end, past-within, at-line}
 use Rattle.received.proofs.Points.{length-ones}

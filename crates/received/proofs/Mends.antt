@@ -1,8 +1,8 @@
 -- How long the text and the list of a plan are, and what is answered by it.
-use mathlib.Core.Path.{◌≡◌, refl, sym, ◌∙◌, ap, subst}
+use mathlib.Core.Path.{◌≡◌, refl, sym, ◌∙◌, ap}
 use mathlib.Core.Bool.{Bool, true, false, cond}
-use mathlib.Core.List.{List, [], ◌∷◌, ◌++◌, flatten, map, append_assoc}
-use Prim.Native.Nat.{ℕ, zero, suc, ◌+◌, ◌-◌, ◌*◌, ◌/◌, ◌≤◌, ◌<◌}
+use mathlib.Core.List.{List, [], ◌∷◌, ◌++◌, flatten}
+use Prim.Native.Nat.{ℕ, ◌+◌, ◌-◌, ◌*◌, ◌/◌, ◌≤◌}
 use native.Mathlib.Omega.{arith}
 use lib.Dec.{leb}
 use lib.ListN.{length, take, drop, length-append, length-drop}
@@ -20,10 +20,9 @@ use Rattle.received.specs.declared.Mended.{Mended}
 use Rattle.received.specs.declared.planning.Plan.{Plan}
 use Rattle.received.specs.Versions.{is_other}
 use Rattle.received.specs.Data.{kept_of}
-use Rattle.received.specs.Mending.{Change, drops_from, Mend, Mends, Cannot, mend_of, words}
+use Rattle.received.specs.Mending.{Change, drops_from, Cannot, mend_of, words}
 use Rattle.received.specs.MendAnswer.{unmended, has_rooms, mended_by, out_by, changes_by, mended_to, out_after, changes_after}
 use Rattle.received.specs.Planning.{data_lines, change_unless, head_of, planned_text, planned_list, room_in, Planned, PlanOf}
-use Rattle.received.proofs.Cuts.{flatten-append}
 
 -- ---- two words a change
 

@@ -20,10 +20,10 @@ use Rattle.received.specs.Slots.{line_with, FillAll, Walked, Through, Stopped, w
 use Rattle.received.specs.Profile.{slots}
 use Rattle.received.specs.Data.{point_in, kept_of, first_seconds, last_seconds}
 use Rattle.received.specs.Reading.{front_at, rest_at, number_at}
-use Rattle.received.specs.Mending.{Change, change, drops_from, time_change, with_times, Mend, Mends, Cannot, mend_with, mend_by, mend_of}
-use Rattle.received.specs.Finding.{bytes_of, spot, spot_from, Inside, groups_of, is_through, walk_over}
-use Rattle.received.specs.Planning.{surveyed_by, survey_of, change_unless, head_of, planned_text, planned_list, Planned, PlanOf}
-use Rattle.received.proofs.Cuts.{lines-back, lines-drop, flatten-append, bytes-append}
+use Rattle.received.specs.Mending.{drops_from, time_change, with_times, Mends, Cannot, mend_with, mend_by, mend_of}
+use Rattle.received.specs.Finding.{bytes_of, spot_from, Inside, groups_of, is_through, walk_over}
+use Rattle.received.specs.Planning.{surveyed_by, survey_of, change_unless, head_of, planned_text, planned_list, PlanOf}
+use Rattle.received.proofs.Cuts.{lines-back, lines-drop, flatten-append}
 use Rattle.received.proofs.Walks.{Sound, walk-sound}
 use Rattle.received.proofs.Reached.{filled, slot-begins, next-begins, line-long}
 use Rattle.received.proofs.Groups.{group-is}

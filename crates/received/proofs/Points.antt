@@ -1,20 +1,20 @@
 -- A data line and the point that it says: a line that can be read is that point's line, and the line of a point is read as that point.
 use mathlib.Core.Path.{◌≡◌, refl, sym, ◌∙◌, ap, subst}
 use mathlib.Core.Bool.{Bool, true, false, cond}
-use mathlib.Core.List.{List, [], ◌∷◌, ◌++◌, flatten, append_assoc, append-nil}
+use mathlib.Core.List.{List, [], ◌∷◌, ◌++◌, flatten, append_assoc}
 use Prim.Native.Nat.{ℕ, zero, suc, ◌+◌, ◌-◌, ◌^◌, ◌≤◌, ◌<◌}
-use native.Mathlib.Nat.{add-zero, add_assoc}
+use native.Mathlib.Nat.{add-zero}
 use native.Mathlib.Numerals.{add-one}
 use native.Mathlib.Omega.{arith}
 use lib.Dec.{eqb, ltb}
 use lib.IntN.{ℤ, pos, negsuc, nat_abs}
 use lib.ListN.{length, take, drop, get_or, length-append, length-take, take-append-drop, get_or-append, get_or-eq_default}
-use lib.Seq.{drop-drop, drop-cons, drop_at, take_at, get_or_at, get_or-drop, ext_get_or}
+use lib.Seq.{drop-drop, drop-cons, drop_at, get_or_at, get_or-drop, ext_get_or}
 use mir.Syntax.{w64}
 use mir.Val.{SFits}
-use borrow.Author.Tests.{ltb-true, ltb-false, lt-ltb, eqb-true}
+use borrow.Author.Tests.{ltb-true, ltb-false, eqb-true}
 use Rattle.integers.specs.Parts.{integers}
-use Rattle.integers.specs.Tests.{◌and◌, joined}
+use Rattle.integers.specs.Tests.{joined}
 use Rattle.text.specs.Numbers.{ascii}
 use Rattle.text.specs.Places.{Stands}
 use Rattle.text.specs.declared.Signed.{Signed}
@@ -23,21 +23,18 @@ use Rattle.calendar.specs.declared.Reading.{Reading}
 use Rattle.calendar.specs.declared.Reading.TheVariants.{Time}
 use Rattle.calendar.specs.declared.Reading.TheVariants as R
 use Rattle.calendar.specs.Calendar.{most_seconds, moment_of}
-use Rattle.calendar.specs.Text.{same_text, time_in, time_text}
-use Rattle.calendar.specs.Back.{same_true, same_refl, text-long, time-exactly}
+use Rattle.calendar.specs.Text.{time_in}
+use Rattle.calendar.specs.Back.{same_true, text-long, time-exactly}
 use Rattle.decimal.specs.Text.{fixed_text, few_digits}
 use Rattle.decimal.specs.Digits.{few-digits}
 use Rattle.decimal.specs.Reading.{fixed_at}
-use Rattle.decimal.specs.Back.{fixed-only, fixed_back}
+use Rattle.decimal.specs.Back.{fixed-only}
 use Rattle.message.specs.Request.{seconds_or}
 use Rattle.message.specs.Message.{time_after, texts}
 use Rattle.message.specs.Refusals.{is_some}
-use Rattle.received.specs.declared.data.Datum.{Datum}
 use Rattle.received.specs.declared.data.Field.{Field}
-use Rattle.received.specs.Data.{Point, decimals_of, field_of, data_line, line_of, no_field, field_by, field_at, field_start, value_in, first_ones, datum_by, datum_in, point_in}
-use Rattle.received.specs.Messages.{Every, IsPoint}
-use Rattle.received.proofs.Fronts.{same-eq}
-use Rattle.received.proofs.Fields.{a-field, short-field}
+use Rattle.received.specs.Data.{decimals_of, field_of, data_line, line_of, no_field, field_by, field_at, field_start, value_in, first_ones, datum_in, point_in}
+use Rattle.received.specs.Messages.{IsPoint}
 
 -- ---- texts at places
 

@@ -1,17 +1,16 @@
 -- The data lines of a text one after another: how many are accepted, and the times of the first and the last.
-use mathlib.Core.Path.{◌≡◌, refl, sym, ◌∙◌, ap, subst}
+use mathlib.Core.Path.{◌≡◌, refl, sym, ◌∙◌, ap}
 use mathlib.Core.Bool.{Bool, true, false}
-use mathlib.Core.List.{List, [], ◌∷◌, ◌++◌, map, append-nil, append_assoc}
-use Prim.Native.Nat.{ℕ, zero, suc, ◌+◌, ◌-◌, ◌≤◌, ◌<◌}
+use mathlib.Core.List.{List, [], ◌∷◌, ◌++◌, append-nil, append_assoc}
+use Prim.Native.Nat.{ℕ, suc, ◌+◌, ◌≤◌, ◌<◌}
 use native.Mathlib.Nat.{add-zero}
 use native.Mathlib.Numerals.{add-one}
 use native.Mathlib.Omega.{arith}
-use lib.Dec.{eqb, ltb}
-use lib.ListN.{length, take, drop, length-append}
+use lib.Dec.{ltb}
+use lib.ListN.{length, drop, length-append}
 use borrow.Author.Tests.{eq-eqb, ne_eqb}
-use Rattle.integers.specs.Tests.{◌and◌, and_no, and_yes, fails, joined}
+use Rattle.integers.specs.Tests.{◌and◌}
 use Rattle.calendar.specs.Calendar.{most_seconds}
-use Rattle.received.specs.declared.data.Datum.{Datum}
 use Rattle.received.specs.declared.data.Scanned.{Scanned}
 use Rattle.received.specs.Lines.{lines_in, past_line}
 use Rattle.received.specs.Data.{Point, datum_in, point_in, accepts, points_in, first_seconds, last_from, last_seconds}

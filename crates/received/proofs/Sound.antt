@@ -2,12 +2,11 @@
 use mathlib.Core.Path.{◌≡◌, refl, sym, ◌∙◌, ap, subst}
 use mathlib.Core.Bool.{Bool, true, false}
 use mathlib.Core.List.{List, [], ◌∷◌, ◌++◌, flatten, map}
-use Prim.Native.Nat.{ℕ, zero, suc, ◌+◌, ◌≤◌, ◌<◌}
+use Prim.Native.Nat.{ℕ, suc, ◌+◌, ◌<◌}
 use native.Mathlib.Omega.{arith}
-use lib.Dec.{ltb, leb, eqb}
 use lib.ListN.{length}
 use borrow.Author.Tests.{ltb-true, leb-true, eqb-true}
-use Rattle.integers.specs.Tests.{◌and◌, joined}
+use Rattle.integers.specs.Tests.{joined}
 use Rattle.calendar.specs.Text.{same_text}
 use Rattle.calendar.specs.Back.{same_true}
 use Rattle.message.specs.declared.Edition.{Edition}
@@ -16,7 +15,7 @@ use Rattle.received.specs.Lines.{lines_in}
 use Rattle.received.specs.Slots.{FillAll, Walked, Through, Stopped, walk}
 use Rattle.received.specs.Profile.{slots}
 use Rattle.received.specs.Data.{Point, line_of, datum_in, point_in, accepts, points_in, first_seconds, last_seconds}
-use Rattle.received.specs.Messages.{Message, head_of, lines_with, lines_of, Every, IsPoint, Rising, Holds, Says}
+use Rattle.received.specs.Messages.{head_of, Every, IsPoint, Rising, Says}
 use Rattle.received.specs.Reading.{Read, Reads, Stops, rest_at, number_at, unless, all_read, read_behind, read_by, read_lines, read_of, message_in}
 use Rattle.received.specs.Finding.{groups_of, is_through}
 use Rattle.received.proofs.Cuts.{lines-back}

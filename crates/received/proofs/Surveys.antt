@@ -1,17 +1,17 @@
 -- The data lines of a text one after another: which are kept and which are dropped, how many, and the times of the first and the last kept.
-use mathlib.Core.Path.{◌≡◌, refl, sym, ◌∙◌, ap, subst}
+use mathlib.Core.Path.{◌≡◌, refl, sym, ◌∙◌, ap}
 use mathlib.Core.Bool.{Bool, true, false}
 use mathlib.Core.List.{List, [], ◌∷◌, ◌++◌, map, flatten, append-nil, append_assoc}
-use Prim.Native.Nat.{ℕ, zero, suc, ◌+◌, ◌-◌, ◌≤◌, ◌<◌}
+use Prim.Native.Nat.{ℕ, suc, ◌+◌, ◌-◌, ◌≤◌, ◌<◌}
 use native.Mathlib.Nat.{add-zero}
 use native.Mathlib.Numerals.{add-one}
 use native.Mathlib.Omega.{arith}
-use lib.ListN.{length, take, drop, length-append}
+use lib.ListN.{length, drop, length-append}
 use Rattle.calendar.specs.Calendar.{most_seconds}
 use Rattle.received.specs.declared.surveying.Step.{Step}
 use Rattle.received.specs.declared.surveying.Surveyed.{Surveyed}
-use Rattle.received.specs.Lines.{lines_in, past_line}
-use Rattle.received.specs.Data.{Point, datum_in, point_in, accepts, kept_of, first_seconds, last_from, last_seconds}
+use Rattle.received.specs.Lines.{lines_in}
+use Rattle.received.specs.Data.{datum_in, point_in, accepts, kept_of, first_seconds, last_from, last_seconds}
 use Rattle.received.specs.Mending.{Change, change, drops_from}
 use Rattle.received.specs.Finding.{bytes_of}
 use Rattle.received.specs.Planning.{line_from, Looked, surveyed_by, survey_of}
@@ -122,16 +122,16 @@ module _ (text : List ℕ) {at earliest : ℕ} {r : Step} (l : Looked text at ea
 
 last_more : (n : ℕ) (lines : List (List ℕ)) (line : List ℕ) → last_from n (map point_in (lines ++ (line ∷ []))) ≡ (datum_in line).seconds
 unfolding last_from
-last_more n [] line = refl
-last_more n (other ∷ lines) line = last_more (datum_in other).seconds lines line
+last_more n [] one = refl
+last_more n (other ∷ lines) one = last_more (datum_in other).seconds lines one
 
 first-of : (lines : List (List ℕ)) (line : List ℕ) → length lines ≡ 0 → (datum_in line).seconds ≡ first_seconds (map point_in (lines ++ (line ∷ [])))
-first-of [] line e = refl
-first-of (other ∷ lines) line e = absurd (omega arith)
+first-of [] one e = refl
+first-of (other ∷ lines) one e = absurd (omega arith)
 
 first-stays : (lines : List (List ℕ)) (line : List ℕ) → (length lines ≡ 0 → ⊥) → first_seconds (map point_in lines) ≡ first_seconds (map point_in (lines ++ (line ∷ [])))
-first-stays [] line n = absurd (n refl)
-first-stays (other ∷ lines) line n = refl
+first-stays [] one n = absurd (n refl)
+first-stays (other ∷ lines) one n = refl
 
 -- ---- some lines were kept and dropped, and what is left gives the rest
 

@@ -4,15 +4,14 @@ use mathlib.Core.Bool.{Bool, true, false}
 use mathlib.Core.List.{List, [], ◌∷◌, ◌++◌, flatten, append_assoc, append-nil}
 use Prim.Native.Nat.{ℕ, suc, ◌+◌, ◌≤◌, ◌<◌}
 use native.Mathlib.Nat.{add-zero, add_assoc}
-use native.Mathlib.Numerals.{add-one}
 use native.Mathlib.Omega.{arith}
-use lib.ListN.{length, take, drop, get_or, length-append}
+use lib.ListN.{length, drop, length-append}
 use lib.Seq.{drop-drop}
 use Rattle.received.specs.declared.heads.Spot.{Spot}
 use Rattle.received.specs.Lines.{lines_in, past_line}
 use Rattle.received.specs.Slots.{Form, is_of, Slot, one, perhaps, any, AllOf, Fills, FillAll, Walked, Through, Stopped, leading, behind, first_of, past_first, after, walk}
 use Rattle.received.specs.Finding.{bytes_of, spot, spot_from}
-use Rattle.received.proofs.Cuts.{between, past_end, past_more, at-line, line-long, bytes-append, flatten-append, lines-drop}
+use Rattle.received.proofs.Cuts.{between, past_end, past_more, at-line, line-long, bytes-append, lines-drop}
 
 -- ---- what a walk finds is there
 

@@ -1,6 +1,6 @@
 -- A data line: a time, six numbers, and a newline; the point that a line says; and lines one after another. Definitions only.
-use Rattle.std.specs.Prelude.{ℕ, zero, suc, ◌+◌, Bool, true, false, cond, leb, ltb, eqb, ℤ, pos, length, take, drop, get_or}
-use mathlib.Core.List.{List, [], ◌∷◌, ◌++◌, flatten, map}
+use Rattle.std.specs.Prelude.{ℕ, zero, suc, ◌+◌, Bool, true, false, cond, leb, ltb, eqb, ℤ, pos, take, drop, get_or}
+use mathlib.Core.List.{List, [], ◌∷◌, ◌++◌, flatten}
 use Rattle.integers.specs.Tests.{◌and◌}
 use Rattle.text.specs.Numbers.{ascii}
 use Rattle.text.specs.declared.Signed.{Signed}

@@ -1,6 +1,6 @@
 -- For the way a text is read: where a walk over slots ends, what is known of the data lines, and what is known of the whole text. Definitions only.
-use Rattle.std.specs.Prelude.{ℕ, ◌+◌, ◌≤◌, Bool, true, false, length, take, drop}
-use mathlib.Core.List.{List, [], ◌∷◌, flatten}
+use Rattle.std.specs.Prelude.{ℕ, ◌+◌, ◌≤◌, Bool, true, false, length}
+use mathlib.Core.List.{List, [], flatten}
 use Rattle.message.specs.declared.Edition.{Edition}
 use Rattle.received.specs.declared.heads.Spot.{Spot}
 use Rattle.received.specs.declared.data.Scanned.{Scanned}

@@ -1,6 +1,6 @@
 -- What mending answers, and what the lent rooms hold then. Definitions only.
 use Rattle.std.specs.Prelude.{ℕ, Bool, cond, leb, length, drop}
-use mathlib.Core.List.{List, [], ◌∷◌, ◌++◌, flatten, map}
+use mathlib.Core.List.{List, ◌++◌, flatten}
 use Rattle.integers.specs.Tests.{◌and◌}
 use Rattle.message.specs.declared.Edition.{Edition}
 use Rattle.received.specs.declared.Mended.{Mended}

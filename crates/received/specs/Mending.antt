@@ -1,6 +1,5 @@
 -- A damaged message mended: the lines that come out, and the changes by the number of their line. Definitions only.
-use Rattle.std.specs.Prelude.{ℕ, suc, Bool, true, false, cond, length, set}
-use Prim.Native.String.{String}
+use Rattle.std.specs.Prelude.{ℕ, suc, true, false, cond, set}
 use mathlib.Core.List.{List, [], ◌∷◌, ◌++◌, flatten, map}
 use Rattle.calendar.specs.Text.{same_text}
 use Rattle.message.specs.declared.Edition.{Edition}
@@ -8,7 +7,7 @@ use Rattle.message.specs.Message.{says, time_after}
 use Rattle.received.specs.Lines.{lines_in}
 use Rattle.received.specs.Slots.{Walked, Through, Stopped, walk}
 use Rattle.received.specs.Profile.{slots}
-use Rattle.received.specs.Data.{Point, datum_in, point_in, accepts, kept_of, first_seconds, last_seconds}
+use Rattle.received.specs.Data.{datum_in, point_in, accepts, kept_of, first_seconds, last_seconds}
 use Rattle.received.specs.Reading.{start_slot, stop_slot, data_slot, rest_at, number_at}
 
 -- ---- changes

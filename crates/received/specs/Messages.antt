@@ -1,5 +1,5 @@
 -- The readable messages: what a message says, the lines that say it, and which texts are one. Definitions only.
-use Rattle.std.specs.Prelude.{ℕ, suc, ◌+◌, ◌^◌, ◌≤◌, ◌<◌, ◌≡◌, Bool, true, ℤ, nat_abs, length}
+use Rattle.std.specs.Prelude.{ℕ, suc, ◌^◌, ◌≤◌, ◌<◌, ◌≡◌, Bool, true, nat_abs, length}
 use Prim.Native.String.{String}
 use mathlib.Core.List.{List, [], ◌∷◌, ◌++◌, flatten, map}
 use Rattle.text.specs.Numbers.{ascii}

@@ -1,6 +1,6 @@
 -- What the reader finds in a text: a message, or the line at which it stops. Definitions only.
 use Rattle.std.specs.Prelude.{ℕ, ◌+◌, Bool, cond, ltb, eqb, length, take, get_or}
-use mathlib.Core.List.{List, [], ◌∷◌, flatten, map}
+use mathlib.Core.List.{List, [], flatten, map}
 use Rattle.integers.specs.Tests.{◌and◌}
 use Rattle.calendar.specs.Text.{same_text}
 use Rattle.message.specs.declared.Edition.{Edition}

@@ -3,6 +3,6 @@
 
 use player::Voice;
 
-fn main() {
-    player::play(Voice::Answers);
+fn main(rt: HostRuntime) {
+    player::play(&rt, Voice::Answers);
 }

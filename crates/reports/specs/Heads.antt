@@ -10,7 +10,7 @@ use Rattle.integers.specs.Tests.{joined}
 use Rattle.calendar.specs.Back.{same_true}
 use Rattle.message.specs.declared.Edition.{Edition}
 use Rattle.received.specs.Lines.{newline, in_front, lines_in}
-use Rattle.received.specs.Slots.{Form, Slot, one, perhaps, any, form_of, line_with, rest_in, has_front, is_of, AllOf, Fills, FillAll}
+use Rattle.received.specs.Slots.{Form, Slot, one, perhaps, any, line_with, rest_in, has_front, is_of, AllOf, Fills, FillAll}
 use Rattle.received.specs.Slots.{Walked, Through, Stopped, leading, behind, first_of, past_first, after, walk}
 use Rattle.received.specs.Profile.{comment_form, slots}
 use Rattle.received.specs.Reading.{slot_at, front_at, line_at, rest_at}

@@ -1,5 +1,5 @@
 -- The samples that a run uses are within its allowance: each point takes at most as many corrections as the limit allows, and so does the one that is not settled.
-use mathlib.Core.Path.{◌≡◌, refl, sym, ap, ◌∙◌}
+use mathlib.Core.Path.{◌≡◌, refl}
 use mathlib.Core.Bool.{Bool, true, false, cond}
 use mathlib.Core.List.{List, [], ◌∷◌}
 use Prim.Native.Nat.{ℕ, zero, suc, ◌+◌, ◌*◌, ◌≤◌, ◌<◌}
@@ -13,7 +13,7 @@ use Rattle.ticks.specs.declared.Sample.{Sample}
 use Rattle.ticks.specs.Samples.{whole_of}
 use Rattle.session.specs.declared.Session.{Session}
 use Rattle.session.specs.Moves.{predicted_point, corrected_point, settled_again, awaiting_at, accepted_at}
-use Rattle.session.specs.Holding.{holds, is_awaiting, settled, awaiting}
+use Rattle.session.specs.Holding.{holds, is_awaiting, settled}
 use Rattle.session.proofs.Rules.{holding, counts-are, settled-holds, resting, expecting}
 use Rattle.steps.specs.Refusals.{predict_refusal, agrees, correct_refusal}
 use Rattle.steps.specs.Steps.{predict_by, predict_of, judged, correct_by, correct_of}

@@ -4,8 +4,6 @@ use Rattle.rules.specs.Rules.{first_of}
 use Rattle.ticks.specs.declared.Sample.{Sample}
 use Rattle.session.specs.declared.Session.{Session}
 use Rattle.session.specs.Holding.{is_awaiting, settled}
-use Rattle.steps.specs.declared.AfterPredict.{AfterPredict}
-use Rattle.steps.specs.declared.AfterCorrect.{AfterCorrect}
 use Rattle.steps.specs.declared.Prediction.{Prediction}
 use Rattle.steps.specs.declared.Correction.{Correction}
 use Rattle.steps.specs.declared.Prediction.TheVariants as P

@@ -1,5 +1,5 @@
 -- Bytes as digits, two to a byte, the high one first: written, and read up to the end of a line. Definitions only.
-use Rattle.std.specs.Prelude.{ℕ, ◌+◌, ◌*◌, Bool, cond, ltb, length, get_or}
+use Rattle.std.specs.Prelude.{ℕ, ◌+◌, ◌*◌, cond, ltb, length, get_or}
 use mathlib.Core.List.{List, flatten, map}
 use Rattle.integers.specs.Tests.{◌and◌}
 use Rattle.text.specs.Numbers.{hex_digits}

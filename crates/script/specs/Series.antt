@@ -1,5 +1,5 @@
 -- What stands piece by piece from a place on up to the end of a line, and the array that it fills from its start. Definitions only.
-use Rattle.std.specs.Prelude.{ℕ, zero, suc, ◌-◌, Bool, true, false, List, [], ◌∷◌, ◌++◌, eqb, length, replicate}
+use Rattle.std.specs.Prelude.{ℕ, zero, suc, ◌-◌, true, false, List, [], ◌∷◌, ◌++◌, eqb, length, replicate}
 
 -- each piece has a value and a place past it; so many are read at most
 unfoldable pub series_in : {A : Type 0} → (ℕ → A) → (ℕ → ℕ) → ℕ → ℕ → ℕ → List A

@@ -3,6 +3,6 @@
 
 use player::Voice;
 
-fn main() {
-    player::play(Voice::Sentences);
+fn main(rt: HostRuntime) {
+    player::play(&rt, Voice::Sentences);
 }

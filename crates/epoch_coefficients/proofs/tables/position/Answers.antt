@@ -1,22 +1,23 @@
 -- `epoch_coefficients::tables::position` meets its contract: each table lists the rows that the rules give, which antt computes (`refl`).
 use mathlib.Core.Path.{refl}
+use Prim.Native.Nat.{◌≤◌}
 use native.Mathlib.Omega.{arith}
 use borrow.Author.Rules.{rules}
 use Rattle.integers.specs.Differences.{ordinates, spread}
 use Rattle.coefficients.specs.declared.Formula.TheVariants.{PositionCorrector}
 use Rattle.coefficients.proofs.Written.{written}
 use Rattle.epoch_coefficients.specs.Formulas.{less_before, cut, earlier_position}
-use Rattle.epoch_coefficients.proofs.Centre.{ninth}
+use Rattle.epoch_coefficients.proofs.Centre.{ninth, at-most-9}
 use Rattle.epoch_coefficients.proofs.Rows.{listed-row}
 use Rattle.epoch_coefficients.proofs.tables.position.Goals as goal
 
 pub offset_bounds-j-in_default : goal.offset_bounds-j-in_default
-unfolding written ordinates spread cut less_before earlier_position
-offset_bounds-j-in_default c = let e = ninth c.requires.p_value c.in_default.in_default-own.rest in search rules
+offset_bounds-j-in_default c =
+    let e : c.args.p ≤ 9 = at-most-9 c.requires.p_value in
+    search rules
 
 pub bounds-j-j-in_default : goal.bounds-j-j-in_default
-unfolding written ordinates spread cut less_before earlier_position
-bounds-j-j-in_default c = let e = ninth c.requires.p_value c.in_default.in_default-own.rest in omega (arith, c.requires.j_lt_p)
+bounds-j-j-in_default c = omega (arith, at-most-9 c.requires.p_value)
 
 pub returns-in-3 : goal.returns-in-3
 unfolding written ordinates spread cut less_before earlier_position
@@ -32,4 +33,4 @@ returns-in-7 c = listed-row PositionCorrector 7 refl c.in-7.is c.requires.j_lt_p
 
 pub returns-in_default : goal.returns-in_default
 unfolding written ordinates spread cut less_before earlier_position
-returns-in_default c = listed-row PositionCorrector 9 refl (ninth c.requires.p_value c.in_default.in_default-own.rest) c.requires.j_lt_p
+returns-in_default c = listed-row PositionCorrector 9 refl (ninth c.requires.p_value (search rules)) c.requires.j_lt_p

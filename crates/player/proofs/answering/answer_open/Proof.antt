@@ -1,6 +1,6 @@
 -- `player::answering::answer_open` meets its contract: the line has at most 64 floats.
 use Rattle.std.proofs.Common.{◌≤◌, sym, subst, rules}
-use Rattle.script.proofs.Floats.{open-few}
+use Rattle.script.proofs.FewFloats.{open-few}
 use Rattle.player.proofs.answering.answer_open.Statement.{statement}
 use Rattle.player.proofs.answering.answer_open.Tie as tie
 

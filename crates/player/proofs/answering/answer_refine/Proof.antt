@@ -1,6 +1,6 @@
 -- `player::answering::answer_refine` meets its contract: the line has at most 64 floats.
 use Rattle.std.proofs.Common.{◌≤◌, sym, subst, rules}
-use Rattle.script.proofs.Floats.{floats-few}
+use Rattle.script.proofs.FewFloats.{floats-few}
 use Rattle.player.proofs.answering.answer_refine.Statement.{statement}
 use Rattle.player.proofs.answering.answer_refine.Tie as tie
 

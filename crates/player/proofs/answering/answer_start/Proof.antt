@@ -1,6 +1,6 @@
 -- `player::answering::answer_start` meets its contract: the line has at most 64 floats.
 use Rattle.std.proofs.Common.{◌≤◌, sym, subst, rules}
-use Rattle.script.proofs.Floats.{open-few}
+use Rattle.script.proofs.FewFloats.{open-few}
 use Rattle.player.proofs.answering.answer_start.Statement.{statement}
 use Rattle.player.proofs.answering.answer_start.Tie as tie
 

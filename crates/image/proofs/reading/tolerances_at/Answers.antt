@@ -1,0 +1,7 @@
+-- `image::reading::tolerances_at` meets its contract.
+use Rattle.image.specs.Reading.{tolerances_at}
+use Rattle.image.proofs.reading.tolerances_at.Goals as goal
+
+pub returns : goal.returns
+unfolding tolerances_at
+returns c = λ i. record { position = c.word_at-position.ensures i; velocity = c.word_at-velocity.ensures i }

@@ -1,0 +1,12 @@
+-- `message::forms::has_between` meets its contract. The loop's invariant: no byte so far is between.
+use mathlib.Core.Path.{◌≡◌}
+use Prim.Native.Nat.{◌≤◌, ◌-◌}
+use lib.ListN.{length, drop}
+use Rattle.message.specs.Form.{has_between}
+use Rattle.message.proofs.forms.has_between.Given as goal
+
+abbrev pub invariant-loop-i : goal.invariant-loop-i
+invariant-loop-i l = (l.i ≤ length l.s) × (has_between l.low l.high (drop l.i l.s) ≡ has_between l.low l.high l.s)
+
+abbrev pub decreases-loop-i : goal.decreases-loop-i
+decreases-loop-i l = length l.s - l.i

@@ -1,0 +1,27 @@
+-- `script::lines::put_no_call` meets its contract: its pieces, one after the other.
+use native.Mathlib.Omega.{arith}
+use borrow.Author.Rules.{rules}
+use Rattle.text.specs.Numbers.{ascii}
+use Rattle.text.specs.Pieces.{whole}
+use Rattle.script.specs.Lines.{no_call_line}
+use Rattle.script.proofs.lines.put_no_call.Goals as goal
+
+pub put_word-a-requires : goal.put_word-a-requires
+unfolding no_call_line ascii
+put_word-a-requires c = omega arith
+
+pub put_decimal-b-requires : goal.put_decimal-b-requires
+unfolding no_call_line ascii
+put_decimal-b-requires c = omega arith
+
+pub put_word-requires : goal.put_word-requires
+unfolding no_call_line ascii
+put_word-requires c = omega arith
+
+pub shape_of-out : goal.shape_of-out
+unfolding no_call_line ascii
+shape_of-out c = search rules
+
+pub returns : goal.returns
+unfolding no_call_line ascii
+returns c = whole _ (cc) (omega arith) (omega arith)

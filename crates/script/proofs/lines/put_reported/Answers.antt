@@ -1,0 +1,35 @@
+-- `script::lines::put_reported` meets its contract: its pieces, one after the other.
+use mathlib.Core.Path.{ap}
+use native.Mathlib.Omega.{arith}
+use borrow.Author.Rules.{rules}
+use lib.Ieee.{binary64, to_bits}
+use lib.ListN.{length}
+use Rattle.text.specs.Numbers.{ascii, hex}
+use Rattle.text.specs.Pieces.{has_room, whole}
+use Rattle.script.specs.Lines.{value}
+use Rattle.script.proofs.Lengths.{length-hex}
+use Rattle.script.proofs.lines.put_reported.Goals as goal
+
+pub put_exact-a-requires : goal.put_exact-a-requires
+unfolding value ascii
+put_exact-a-requires c = has_room (omega arith)
+
+pub put-b-requires : goal.put-b-requires
+unfolding value ascii
+put-b-requires c = omega arith
+
+pub bits_of-requires : goal.bits_of-requires
+unfolding value ascii
+bits_of-requires c = search rules
+
+pub put_hex-requires : goal.put_hex-requires
+unfolding value ascii
+put_hex-requires c = omega (arith, length-hex (to_bits binary64 c.args.r.report))
+
+pub shape_of-out : goal.shape_of-out
+unfolding value ascii
+shape_of-out c = search rules
+
+pub returns : goal.returns
+unfolding value ascii
+returns c = whole _ (cc) (omega (arith, ap (λ n. length (hex n)) c.bits_of.ensures)) (omega arith)

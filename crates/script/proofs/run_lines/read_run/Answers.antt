@@ -1,0 +1,25 @@
+-- `script::run_lines::read_run` meets its contract. The loop's invariant: so many floats were read past the number.
+use native.Mathlib.Omega.{arith}
+use mathlib.Core.Path.{◌∙◌, ap}
+use lib.Ieee.{binary64, of_bits}
+use Rattle.script.proofs.Series.{begun, one_more, at-the-end, no-more-fit}
+use Rattle.script.proofs.Runs.{run-read}
+use Rattle.script.proofs.run_lines.read_run.Goals as goal
+
+pub loop-count-init : goal.loop-count-init
+loop-count-init c = begun _ _ _ _ _ _
+
+pub loop-count-preserved : goal.loop-count-preserved
+loop-count-preserved c =
+    one_more _ _ _ _ _ _ c.loop-count.invariant c.loop-count-test.true c.if-end-line.false
+    (c.float_of.ensures ∙ ap (λ w. of_bits binary64 w.value) c.bits_word-word.ensures)
+    (ap (λ w. w.end) c.bits_word-word.ensures)
+
+pub loop-count-smaller : goal.loop-count-smaller
+loop-count-smaller c = omega arith
+
+pub returns-after-loop-count : goal.returns-after-loop-count
+returns-after-loop-count c = run-read _ _ _ c.natural_word-wanted.ensures (no-more-fit _ _ _ _ _ _ c.loop-count.invariant c.loop-count-test.false)
+
+pub returns-then-end-line : goal.returns-then-end-line
+returns-then-end-line c = run-read _ _ _ c.natural_word-wanted.ensures (at-the-end _ _ _ _ _ _ c.loop-count.invariant c.if-end-line.true)
