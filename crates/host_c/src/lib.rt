@@ -23,7 +23,21 @@ pub extern "C" fn durungkilat_open(
     ensures { Leaves (host_open image.old answer.old (host_request points position_tolerance velocity_tolerance limit
         (record { x = x; y = y; z = z; vx = vx; vy = vy; vz = vz }) samples.now)) result image.new answer.new }
 {
-    host::durungkilat_open(image, answer, points, position_tolerance, velocity_tolerance, limit, x, y, z, vx, vy, vz, samples)
+    host::durungkilat_open(
+        image,
+        answer,
+        points,
+        position_tolerance,
+        velocity_tolerance,
+        limit,
+        x,
+        y,
+        z,
+        vx,
+        vy,
+        vz,
+        samples,
+    )
 }
 
 #[unsafe(no_mangle)]
