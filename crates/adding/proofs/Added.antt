@@ -13,11 +13,11 @@ use Rattle.session.specs.Coordinates.{Coordinate, on_x, on_y, on_z, ticks_on}
 use Rattle.session.specs.Moves.{present_point}
 use Rattle.steps.specs.declared.ReportedPoint.{ReportedPoint}
 use Rattle.steps.specs.declared.Prediction.TheVariants as P
-use Rattle.demands.specs.Histories.{Implementation, Call, predict, predicting, after, history, Entry, entries, samples_of}
-use Rattle.demands.specs.ClosedForm.{Origin, Tells, Told, Predicts}
+use Rattle.demands.specs.Histories.{Implementation, predict, predicting, after, history, Entry, entries, samples_of}
+use Rattle.demands.specs.ClosedForm.{Tells, Told, Predicts}
 use Rattle.demands.specs.Demands.{Formulas, Leaves, position, velocity}
 use Rattle.demands.proofs.Standing.{points-most}
-use Rattle.adding.specs.Tracks.{Track, Called, reached, value_at, value_on, value_in, PredictedAfter}
+use Rattle.adding.specs.Tracks.{Track, Called, reached, value_at, value_on, value_in}
 use Rattle.adding.specs.Sums.{SumUpTo, SameUpTo}
 use Rattle.adding.specs.Theorems.{Adds, OfSamplesUpTo}
 use Rattle.adding.proofs.Linear.{value_by, ListsAdd, none, more, value-adds}

@@ -1,6 +1,6 @@
 -- Point n of a track, and a prediction after it, are the closed form's of the opening and the samples up to n; so tracks add.
 use mathlib.Core.Path.{◌≡◌, refl, sym, ap, subst, ◌∙◌}
-use mathlib.Core.Logic.{◌⊎◌, inl, inr}
+use mathlib.Core.Logic.{inl, inr}
 use mathlib.Core.List.{List, [], ◌∷◌}
 use Prim.Native.Nat.{ℕ, zero, suc, ◌-◌, ◌≤◌}
 use native.Mathlib.Omega.{arith}
@@ -16,7 +16,6 @@ use Rattle.axis.proofs.Held.{corrector_of}
 use Rattle.session.specs.Coordinates.{Coordinate}
 use Rattle.steps.specs.declared.ReportedPoint.{ReportedPoint}
 use Rattle.steps.specs.declared.Correction.TheVariants as C
-use Rattle.steps.specs.declared.Prediction.TheVariants as P
 use Rattle.demands.specs.Histories.{Event, predicting, correcting, withdrawing, refining, Entry, entries, samples_of}
 use Rattle.demands.specs.ClosedForm.{Origin, first_sum, second_before, position_at, velocity_at, next_position, next_velocity, Predicts, Corrects, Tells, Told}
 use Rattle.demands.specs.Demands.{positions, velocities}

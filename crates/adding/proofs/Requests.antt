@@ -10,12 +10,12 @@ use Rattle.integers.specs.Tactics.{atom, terms, ring}
 use Rattle.integers.specs.Differences.{at}
 use Rattle.exact.specs.Numerator.{D, numerator}
 use Rattle.ticks.specs.Round.{rounded_of, ticks_in}
-use Rattle.axis.specs.Kinds.{Kind, of_position, of_velocity}
+use Rattle.axis.specs.Kinds.{of_position, of_velocity}
 use Rattle.session.specs.Coordinates.{Coordinate, on_x, on_y, on_z}
 use Rattle.session.specs.Requests.{exact_point, Request}
 use Rattle.steps.specs.Opening.{axis_samples}
 use Rattle.demands.specs.ClosedForm.{place, origin}
-use Rattle.adding.specs.Sums.{OpeningsAdd, given, tick_at, RequestsAdd}
+use Rattle.adding.specs.Sums.{OpeningsAdd, given, RequestsAdd}
 
 -- ---- the point: whole ticks are so many times D
 

@@ -1,16 +1,14 @@
 -- The samples of the points up to n, the latest first: the accepted points that came after are dropped.
-use mathlib.Core.Path.{◌≡◌, refl, sym, ap, subst, ◌∙◌}
+use mathlib.Core.Path.{◌≡◌, refl, ap, ◌∙◌}
 use mathlib.Core.List.{List, [], ◌∷◌}
 use Prim.Native.Nat.{ℕ, zero, suc, ◌+◌, ◌-◌, ◌≤◌, ◌<◌}
 use native.Mathlib.Omega.{arith}
-use lib.IntN.{◌+ℤ◌}
 use lib.ListN.{length, drop, drop_of_length-le}
 use Rattle.ticks.specs.declared.WholeSample.{WholeSample}
-use Rattle.session.specs.Coordinates.{Coordinate, on_x, on_y, on_z, ticks_on}
+use Rattle.session.specs.Coordinates.{Coordinate, ticks_on}
 use Rattle.demands.specs.Histories.{Entry, samples_of}
 use Rattle.demands.specs.ClosedForm.{Origin, samples}
 use Rattle.demands.specs.Demands.{sample}
-use Rattle.adding.proofs.Linear.{ListsAdd, none, more}
 
 abbrev pub up_to : ℕ → List Entry → List WholeSample
 up_to n es = samples_of (drop (length es - n) es)

@@ -8,7 +8,7 @@ use Rattle.session.specs.Coordinates.{Coordinate, motion_on}
 use Rattle.steps.specs.declared.ReportedPoint.{ReportedPoint}
 use Rattle.steps.specs.declared.Prediction.TheVariants as P
 use Rattle.demands.specs.Coordinates.{position_in, velocity_in}
-use Rattle.demands.specs.Histories.{Implementation, Call, Event, predicting, after, history, Entry, entries}
+use Rattle.demands.specs.Histories.{Implementation, Call, Event, predicting, after, history, entries}
 use Rattle.demands.specs.ClosedForm.{Origin, Begins}
 use Rattle.demands.specs.Demands.{position, velocity, sample}
 

@@ -42,5 +42,9 @@ fn main(rt: HostRuntime) {
     say_track(&rt, b"y", end.y);
     say_track(&rt, b"z", end.z);
     say_seen(&rt, end.host.seen);
-    say_line(&rt, b"one more is refused ", calls::refused_prediction(session));
+    say_line(
+        &rt,
+        b"one more is refused ",
+        calls::refused_prediction(session),
+    );
 }

@@ -42,5 +42,8 @@ fn main(rt: HostRuntime) {
             return;
         }
     }
-    complain(&rt, b"pace: give P, from 1 to 9, and STEPS, from 0 to 1000000\n");
+    complain(
+        &rt,
+        b"pace: give P, from 1 to 9, and STEPS, from 0 to 1000000\n",
+    );
 }
