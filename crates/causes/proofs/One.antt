@@ -9,7 +9,7 @@ use native.Mathlib.Omega.{arith}
 use lib.IntN.{ℤ, pos}
 use Rattle.integers.specs.Tests.{agree}
 use Rattle.rules.specs.Rules.{NotZero, Unrefused}
-use Rattle.rules.specs.Readings.{one-exactly, surely}
+use Rattle.rules.proofs.Readings.{one-exactly, surely}
 use Rattle.exact.specs.declared.Exact.{Exact}
 use Rattle.exact.specs.Numerator.{exact_of, numerator}
 use Rattle.exact.specs.Report.{report_of}

@@ -2,7 +2,8 @@
 use Rattle.std.specs.Prelude.{◌≡◌, ◌↔◌, ℕ, ◌*◌, ◌^◌, ◌≤◌, ◌<◌, ℤ, pos, ◌*ℤ◌}
 use Rattle.std.proofs.Math.Nat.{one-le-pow}
 use Rattle.std.proofs.Common.{mul-le-mul, arith}
-use Rattle.integers.specs.Nearest.{Nearest, nearest-means}
+use Rattle.integers.specs.Nearest.{Nearest}
+use Rattle.integers.proofs.Nearest.{nearest-means}
 use Rattle.exact.specs.declared.Exact.{Exact}
 use Rattle.exact.specs.Numerator.{D, numerator}
 use Rattle.decimal.specs.Units.{position_units, velocity_units}

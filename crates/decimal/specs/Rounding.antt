@@ -4,7 +4,8 @@ use Rattle.std.proofs.Common.{sym, ap, ◌∙◌, div-add-mod', arith}
 use Rattle.integers.specs.Parts.{integers, nat_abs-parts, one-part, +-parts, difference-parts}
 use Rattle.integers.specs.Ring.{*ℤ-distrib-right, one-*ℤ}
 use Rattle.integers.specs.Tactics.{atom, terms, ring}
-use Rattle.integers.specs.Nearest.{nearest_of, nearest-means}
+use Rattle.integers.specs.Nearest.{nearest_of}
+use Rattle.integers.proofs.Nearest.{nearest-means}
 
 -- how far x + r is from x, and from x + d
 from-below : (x : ℤ) (r : ℕ) → nat_abs ((x +ℤ pos r) -ℤ x) ≡ r

@@ -25,7 +25,7 @@ use Rattle.session.specs.Requests.{exact_point}
 use Rattle.session.proofs.Coordinates.{on-each, present-on, predicted-on, corrected-on}
 use Rattle.session.proofs.Values.{range-iff}
 use Rattle.rules.specs.Rules.{Decides}
-use Rattle.rules.specs.Readings.{decides, both}
+use Rattle.rules.proofs.Readings.{decides, both}
 use Rattle.epoch_axis.specs.Formulas.{earlier_motion}
 use Rattle.epoch_session.specs.declared.Round.{Round}
 use Rattle.epoch_session.specs.Rounds.{earlier_point, every_below, round_in_range}

@@ -27,7 +27,7 @@ use Rattle.session.proofs.Coordinates.{on-each, point-by, present-on, estimate-o
 use Rattle.session.proofs.Values.{range-iff}
 use Rattle.session.proofs.Rules.{KeepsRules, holding, counts-are, counts-hold, settled-holds, resting, settled-by, awaiting-holds, expecting, awaiting-by}
 use Rattle.rules.specs.Rules.{Decides}
-use Rattle.rules.specs.Readings.{decides}
+use Rattle.rules.proofs.Readings.{decides}
 use Rattle.epoch_coefficients.specs.Formulas.{has_centre}
 use Rattle.epoch_coefficients.proofs.Centre.{of-each}
 use Rattle.epoch_session.specs.Records.{held_round, sums_zero, epoch_holds, axis_starts, starting}

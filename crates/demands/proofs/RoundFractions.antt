@@ -7,7 +7,8 @@ use native.Mathlib.Omega.{arith}
 use lib.IntN.{ℤ, pos, ◌+ℤ◌, ◌-ℤ◌}
 use lib.Ieee.{Float}
 use lib.ListN.{take, replicate, get_or}
-use Rattle.integers.specs.Differences.{at, past-taken, by_differences}
+use Rattle.integers.specs.Differences.{at, by_differences}
+use Rattle.integers.proofs.Differences.{past-taken}
 use Rattle.exact.specs.Numerator.{D, numerator}
 use Rattle.exact.specs.Laws.{numerator-exact_of}
 use Rattle.coefficients.specs.Fraction.{◌over◌}

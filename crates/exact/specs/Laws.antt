@@ -3,9 +3,10 @@ use Rattle.std.specs.Prelude.{◌≡◌, refl, Bool, true, false, cond, ℕ, max
 use Rattle.std.proofs.Common.{sym, ap, ap₂, ◌∙◌, arith, lit<, eq-eqb, eqb-true, leb-true, leb-false}
 use Rattle.std.proofs.Math.IntN.{+ℤ_idr}
 use Rattle.std.specs.Int.Signed.{le_z, lt_z}
-use Rattle.integers.specs.Tests.{◌and◌, eqℤ-true, eqℤ-refl, agree, joined}
+use Rattle.integers.specs.Tests.{◌and◌, agree, joined}
+use Rattle.integers.proofs.Tests.{eqℤ-true, eqℤ-refl}
 use Rattle.integers.specs.Parts.{pos_part, neg_part, integers, +-parts, multiple-parts, parts-≡}
-use Rattle.integers.specs.Division.{floor-law, floor_mod-<, floor-unique}
+use Rattle.integers.proofs.Division.{floor-law, floor_mod-<, floor-unique}
 use Rattle.exact.specs.declared.Exact.{Exact}
 use Rattle.exact.specs.Numerator.{D, exact_of, numerator, wholly, same_exact, larger_of, lies}
 

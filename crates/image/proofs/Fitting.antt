@@ -9,7 +9,8 @@ use lib.IntN.{ℤ, pos}
 use mir.Syntax.{w64}
 use mir.Val.{SFits}
 use Rattle.integers.specs.Size.{sfits-of-size}
-use Rattle.integers.specs.Differences.{at, past-taken}
+use Rattle.integers.specs.Differences.{at}
+use Rattle.integers.proofs.Differences.{past-taken}
 use Rattle.integers.specs.Tests.{joined}
 use Rattle.exact.specs.declared.Exact.{Exact}
 use Rattle.exact.specs.Numerator.{exact_of, Bounded}

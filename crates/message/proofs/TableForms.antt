@@ -11,7 +11,7 @@ use lib.Dec.{leb}
 use lib.ListN.{length, length-append, get_or}
 use Rattle.integers.specs.Tests.{◌and◌, joined, clash, fails}
 use Rattle.rules.specs.Rules.{Decides}
-use Rattle.rules.specs.Readings.{decides}
+use Rattle.rules.proofs.Readings.{decides}
 use Rattle.text.specs.Numbers.{ascii}
 use Rattle.calendar.specs.declared.Reading.{Reading}
 use Rattle.calendar.specs.declared.Reading.TheVariants as R

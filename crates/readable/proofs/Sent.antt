@@ -12,7 +12,7 @@ use lib.Signed.{le_z, lt_z}
 use borrow.Author.Tests.{leb-true, eqb-true, eqb-false, not-false, lt-ltb, le-ltb, ltb-true}
 use Rattle.integers.specs.Parts.{integers, nat_abs-parts, one-part}
 use Rattle.integers.specs.Tests.{joined}
-use Rattle.rules.specs.Tests.{clear}
+use Rattle.rules.proofs.Tests.{clear}
 use Rattle.exact.specs.declared.Exact.{Exact}
 use Rattle.exact.specs.Numerator.{D, between}
 use Rattle.exact.specs.Bounds.{between-bounded}

@@ -6,7 +6,8 @@ use native.Mathlib.Omega.{arith}
 use lib.IntN.{ℤ, pos, nat_abs, ◌-ℤ◌, ◌*ℤ◌}
 use Rattle.integers.specs.Parts.{nat_abs-parts, one-part, difference-parts}
 use Rattle.integers.specs.Size.{nat_abs-*ℤ}
-use Rattle.integers.specs.Nearest.{nearest_of, nearest-of}
+use Rattle.integers.specs.Nearest.{nearest_of}
+use Rattle.integers.proofs.Nearest.{nearest-of}
 use Rattle.exact.specs.declared.Exact.{Exact}
 use Rattle.exact.specs.Numerator.{D, numerator, Bounded}
 use Rattle.exact.specs.Bounds.{numerator-within}

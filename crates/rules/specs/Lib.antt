@@ -2,4 +2,3 @@
 -- the readings of a list of statements (`Readings`).
 pub mod Rules
 pub mod Tests
-pub mod Readings
