@@ -2,9 +2,4 @@
 -- real moments are in the order of their seconds (`Order`), each number of seconds is that of one (`Moments`), and so is each text (`Back`).
 pub mod Calendar
 pub mod Text
-pub mod Sums
-pub mod Years
-pub mod Order
-pub mod Moments
-pub mod Back
 pub mod Figures

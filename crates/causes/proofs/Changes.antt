@@ -10,7 +10,9 @@ use Rattle.exact.specs.Numerator.{D, numerator}
 use Rattle.exact.specs.Laws.{numerator-exact_of}
 use Rattle.coefficients.specs.Fraction.{◌over◌, ◌⊗◌, ◌≐◌, times}
 use Rattle.coefficients.specs.Rules.{c, g, l, s, total, terms as terms_of, next, divided}
-use Rattle.coefficients.specs.Scaled.{first, later, g-whole, l-from-2, c-from-1, s-whole}
+use Rattle.coefficients.specs.Scaled.{first, later}
+use Rattle.coefficients.proofs.Scaled.{g-whole, s-whole}
+use Rattle.coefficients.proofs.FromFirst.{l-from-2, c-from-1}
 use Rattle.coefficients.specs.Formulas.{position_predictor, position_corrector, velocity_predictor, velocity_corrector}
 use Rattle.axis.specs.declared.Axis.{Axis}
 use Rattle.axis.specs.declared.Motion.{Motion}

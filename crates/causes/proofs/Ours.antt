@@ -14,7 +14,7 @@ use Rattle.integers.specs.Tests.{◌and◌}
 use Rattle.rules.specs.Rules.{NotZero, Exactly, Unrefused, Decides}
 use Rattle.rules.proofs.Readings.{first-exactly}
 use Rattle.exact.specs.Numerator.{exact_of, numerator}
-use Rattle.exact.specs.Laws.{part-below, numerator-exact_of}
+use Rattle.exact.proofs.Laws.{part-below, numerator-exact_of}
 use Rattle.ticks.specs.declared.Sample.{Sample}
 use Rattle.ticks.specs.Samples.{axes_of, whole_of}
 use Rattle.session.specs.declared.Session.{Session}

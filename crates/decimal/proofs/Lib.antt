@@ -2,3 +2,9 @@
 mod Sizes
 mod DigitsRead
 mod Texts
+pub mod Back
+pub mod Digits
+pub mod Form
+pub mod Meaning
+pub mod Rounding
+pub mod SizeBack

@@ -3,10 +3,4 @@
 pub mod Units
 pub mod Text
 pub mod Reading
-pub mod Rounding
-pub mod Digits
-mod SizeBack
-pub mod Back
-pub mod Form
-pub mod Meaning
 pub mod Figures

@@ -10,7 +10,7 @@ use Rattle.integers.specs.Tests.{joined}
 use Rattle.integers.specs.Parts.{integers, neg-parts}
 use Rattle.exact.specs.declared.Exact.{Exact}
 use Rattle.exact.specs.Numerator.{D, numerator, between}
-use Rattle.exact.specs.Laws.{numerator-parts, part-below}
+use Rattle.exact.proofs.Laws.{numerator-parts, part-below}
 use Rattle.ticks.specs.declared.WholeSample.{WholeSample}
 use Rattle.axis.specs.declared.Motion.{Motion}
 use Rattle.axis.specs.Formulas.{motion_of, present_motion, predicted_motion, corrected_motion}

@@ -10,7 +10,7 @@ use Rattle.integers.specs.Tests.{joined}
 use Rattle.integers.specs.Differences.{at}
 use Rattle.exact.specs.declared.Exact.{Exact}
 use Rattle.exact.specs.Numerator.{exact_of, same_exact}
-use Rattle.exact.specs.Laws.{same_true, same_refl}
+use Rattle.exact.proofs.Laws.{same_true, same_refl}
 use Rattle.axis.specs.declared.Axis.{Axis}
 use Rattle.axis.specs.Formulas.{still}
 use Rattle.axis.specs.Estimates.{in_range}

@@ -14,3 +14,5 @@ pub mod Images
 pub mod Figures
 pub mod Left
 pub mod Theorems
+pub mod Lengths
+pub mod WordLaws

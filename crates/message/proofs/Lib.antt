@@ -10,3 +10,4 @@ mod Wholes
 mod Answers
 mod TableForms
 pub mod Table
+pub mod Laws

@@ -17,8 +17,8 @@ use Rattle.calendar.specs.declared.Reading.{Reading}
 use Rattle.calendar.specs.declared.Reading.TheVariants as R
 use Rattle.calendar.specs.Calendar.{Within, seconds_of, most_seconds}
 use Rattle.calendar.specs.Text.{time_in}
-use Rattle.calendar.specs.Back.{time-back, time-only}
-use Rattle.calendar.specs.Moments.{last-moment}
+use Rattle.calendar.proofs.Back.{time-back, time-only}
+use Rattle.calendar.proofs.Moments.{last-moment}
 use Rattle.message.specs.Request.{Request, count_of, seconds_in, seconds_at}
 use Rattle.message.specs.Form.{has_between, all_between, one_case, name_holds, fits}
 use Rattle.message.specs.Refusals.{is_some, is_time, names_hold, settings_hold, ends_in_time, well_formed}

@@ -10,5 +10,4 @@ pub mod Answer
 pub mod Measures
 pub mod Parts
 pub mod Table
-pub mod Laws
 pub mod Figures

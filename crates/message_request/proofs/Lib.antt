@@ -5,3 +5,4 @@ mod Read
 mod Numbers
 mod Kept
 mod Together
+pub mod Within

@@ -1,7 +1,7 @@
 -- The change that an explanation names is exact: its part is below D.
 use Rattle.std.proofs.Common.{ℕ, suc, ◌<◌, Bool, true, false, cond, eqb, List, [], ◌∷◌, arith}
 use Rattle.exact.specs.Numerator.{D}
-use Rattle.exact.specs.Laws.{part-below}
+use Rattle.exact.proofs.Laws.{part-below}
 use Rattle.ticks.specs.declared.Sample.{Sample}
 use Rattle.ticks.specs.Samples.{axes_of, whole_of}
 use Rattle.session.specs.declared.Session.{Session}

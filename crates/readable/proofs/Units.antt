@@ -10,7 +10,7 @@ use Rattle.integers.specs.Nearest.{nearest_of}
 use Rattle.integers.proofs.Nearest.{nearest-of}
 use Rattle.exact.specs.declared.Exact.{Exact}
 use Rattle.exact.specs.Numerator.{D, numerator, Bounded}
-use Rattle.exact.specs.Bounds.{numerator-within}
+use Rattle.exact.proofs.Bounds.{numerator-within}
 use Rattle.decimal.specs.Units.{position_units, velocity_units}
 
 -- how far x is from 0, by how far a is and how far they are apart

@@ -9,7 +9,7 @@ use Rattle.integers.specs.Parts.{nat_abs-parts, one-part, difference-parts, mult
 use Rattle.integers.proofs.Nearest.{nearest-means}
 use Rattle.exact.specs.declared.Exact.{Exact}
 use Rattle.exact.specs.Numerator.{D, numerator}
-use Rattle.exact.specs.Laws.{numerator-parts}
+use Rattle.exact.proofs.Laws.{numerator-parts}
 use Rattle.sentences.specs.declared.decimals.Size.{Size}
 use Rattle.sentences.specs.Decimals.{size_of, ten_decimals}
 

@@ -2,3 +2,8 @@
 mod Decimals
 pub mod Signs
 mod Hexadecimals
+pub mod Back
+pub mod DecimalBack
+pub mod Digits
+pub mod HexBack
+pub mod Pieces

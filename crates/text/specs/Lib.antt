@@ -3,9 +3,4 @@
 pub mod Places
 pub mod Numbers
 pub mod Reading
-pub mod Pieces
-pub mod Digits
 pub mod Rows
-pub mod DecimalBack
-mod HexBack
-pub mod Back

@@ -14,7 +14,7 @@ use Rattle.integers.specs.Nearest.{nearest_of}
 use Rattle.exact.specs.Numerator.{D}
 use Rattle.decimal.specs.declared.Quotient.{Quotient}
 use Rattle.decimal.specs.Units.{quotient_of}
-use Rattle.decimal.specs.Rounding.{in_two}
+use Rattle.decimal.proofs.Rounding.{in_two}
 use Rattle.decimal.proofs.Sizes.{floor-within}
 use Rattle.decimal.proofs.units.nearest.Goals as goal
 

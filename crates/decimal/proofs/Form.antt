@@ -10,10 +10,10 @@ use Rattle.text.specs.declared.Unsigned.TheVariants as U
 use Rattle.text.specs.Places.{Stands}
 use Rattle.text.specs.Numbers.{ascii, digit, digits, decimal, last_digits}
 use Rattle.text.specs.Reading.{is_digit, decimal_in, decimal_at}
-use Rattle.text.specs.DecimalBack.{ended, refuted}
-use Rattle.text.specs.Back.{decimal-back}
+use Rattle.text.proofs.DecimalBack.{ended, refuted}
+use Rattle.text.proofs.Back.{decimal-back}
 use Rattle.decimal.specs.Text.{fixed, fixed_text}
-use Rattle.decimal.specs.Digits.{length-last_digits, one-at-least}
+use Rattle.decimal.proofs.Digits.{length-last_digits, one-at-least}
 
 -- each byte is a digit
 abbrev pub Digits : List ℕ → Type 0

@@ -9,7 +9,8 @@ use Rattle.std.specs.Float.Ieee.Order.{round_mono}
 use Rattle.std.specs.Float.Ieee.Scale.{round_same, grid}
 use Rattle.std.specs.Float.Ieee.Back.{round_whole}
 use Rattle.std.specs.Float.Ieee.Positive.{num, positive, first_pos}
-use Rattle.exact.specs.Rounding.{ordinary, plus-ordinary, plus-positive, minus-ordinary, rounded-value}
+use Rattle.exact.specs.Rounding.{ordinary}
+use Rattle.exact.proofs.Rounding.{plus-ordinary, plus-positive, minus-ordinary, rounded-value}
 
 -- a float from 0 to 1, with the sign +, that the format holds
 abbrev pub Fraction : Float → Type 0

@@ -7,8 +7,8 @@ use Rattle.text.specs.declared.Unsigned.{Unsigned}
 use Rattle.text.specs.declared.Unsigned.TheVariants.{Number, Nothing}
 use Rattle.text.specs.Numbers.{hex_digit, hex_digits}
 use Rattle.text.specs.Reading.{hex_digit_of, hex_going_on}
-use Rattle.text.specs.Digits.{length-hex_digits}
-use Rattle.text.specs.DecimalBack.{Splits, refuted}
+use Rattle.text.proofs.Digits.{length-hex_digits}
+use Rattle.text.proofs.DecimalBack.{Splits, refuted}
 
 -- ---- one digit
 

@@ -15,11 +15,11 @@ use Rattle.text.specs.declared.Signed.TheVariants as S
 use Rattle.text.specs.Places.{Wrote, Stands}
 use Rattle.text.specs.Numbers.{ascii}
 use Rattle.text.specs.Reading.{decimal_at, below, not_below}
-use Rattle.text.specs.DecimalBack.{refuted}
-use Rattle.text.specs.Back.{no_sign, sign, after-sign, with-sign, stands-there}
+use Rattle.text.proofs.DecimalBack.{refuted}
+use Rattle.text.proofs.Back.{no_sign, sign, after-sign, with-sign, stands-there}
 use Rattle.decimal.specs.Text.{fixed, fixed_text}
 use Rattle.decimal.specs.Reading.{with_decimals, size_at, fixed_at}
-use Rattle.decimal.specs.SizeBack.{size_back, size-only}
+use Rattle.decimal.proofs.SizeBack.{size_back, size-only}
 
 -- ---- with a sign
 

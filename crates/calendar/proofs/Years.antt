@@ -5,7 +5,7 @@ use Rattle.std.proofs.Math.Nat.{suc-mod, mod_self, mod-add-div', add-mul-div_rig
 use Rattle.std.proofs.lemmas.Bool.{eqb-false}
 use Rattle.integers.specs.Tests.{◌and◌, joined, clash}
 use Rattle.calendar.specs.Calendar.{leap, lengths, days_of_month, sum_to, days_of_year, days_before_year, days_before_month, year_of, month_of}
-use Rattle.calendar.specs.Sums.{term, fitting-is, fitting-all}
+use Rattle.calendar.proofs.Sums.{term, fitting-is, fitting-all}
 
 pub year-length : (y : ℕ) → days_of_year y ≡ cond (leap y) 366 365
 unfolding days_of_year days_of_month lengths sum_to

@@ -5,7 +5,7 @@ use Rattle.exact.specs.declared.Exact.{Exact}
 use Rattle.axis.specs.declared.Motion.{Motion}
 use Rattle.axis.specs.declared.Axis.{Axis}
 use Rattle.session.specs.declared.Session.{Session}
-use Rattle.image.specs.Words.{length-in_bytes}
+use Rattle.image.proofs.WordLaws.{length-in_bytes}
 use Rattle.image.specs.Layout.{exact_words, motion_words, settings_words, axis_sums, sums_words, place_words, places_words, estimate_words, contents, record_words, image_length, record_bytes}
 
 pub length-exact_words : (e : Exact) → length (exact_words e) ≡ 2

@@ -7,8 +7,8 @@ use Rattle.calendar.specs.declared.Moment.{Moment}
 use Rattle.calendar.specs.declared.Reading.TheVariants.{Time, Nothing}
 use Rattle.calendar.specs.Calendar.{Real, is_real, seconds_of, most_seconds, moment_of}
 use Rattle.calendar.specs.Text.{time_text, value_at, moment_in, same_text, time_in}
-use Rattle.calendar.specs.Years.{month-most}
-use Rattle.calendar.specs.Moments.{tested_real, real-tested, at_most, moment-real, moment-seconds, moment-again}
+use Rattle.calendar.proofs.Years.{month-most}
+use Rattle.calendar.proofs.Moments.{tested_real, real-tested, at_most, moment-real, moment-seconds, moment-again}
 
 -- ---- two texts
 

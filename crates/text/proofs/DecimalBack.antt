@@ -7,7 +7,7 @@ use Rattle.text.specs.declared.Unsigned.{Unsigned}
 use Rattle.text.specs.declared.Unsigned.TheVariants.{Number, Nothing}
 use Rattle.text.specs.Numbers.{digit, decimal}
 use Rattle.text.specs.Reading.{is_digit, going_on, decimal_in}
-use Rattle.text.specs.Digits.{decimal-small, decimal-more}
+use Rattle.text.proofs.Digits.{decimal-small, decimal-more}
 
 -- no digit follows
 pub data NoDigit : List ℕ → Type 0 where

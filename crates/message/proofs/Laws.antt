@@ -7,7 +7,7 @@ use Rattle.text.specs.Numbers.{ascii}
 use Rattle.calendar.specs.declared.Reading.TheVariants.{Time}
 use Rattle.calendar.specs.Calendar.{most_seconds}
 use Rattle.calendar.specs.Text.{time_in}
-use Rattle.calendar.specs.Back.{time-exactly}
+use Rattle.calendar.proofs.Back.{time-exactly}
 use Rattle.message.specs.declared.Edition.{Edition}
 use Rattle.message.specs.declared.Edition.TheVariants.{Two, Three}
 use Rattle.message.specs.Editions.{version_of}

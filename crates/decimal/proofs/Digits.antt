@@ -4,7 +4,7 @@ use Rattle.std.proofs.Common.{sym, ◌∙◌, ap, div-one, pow-suc, div-le_self,
 use Rattle.std.proofs.Math.Nat.{div-div-eq-div-mul, pow-succ', one-le-pow}
 use Rattle.integers.specs.Tests.{agree, passes}
 use Rattle.text.specs.Numbers.{ascii, digit, decimal, last_digits}
-use Rattle.text.specs.Digits.{decimal-small, length_more, length-decimal}
+use Rattle.text.proofs.Digits.{decimal-small, length_more, length-decimal}
 use Rattle.decimal.specs.Text.{fixed, fixed_text, few_digits, digits_before}
 
 -- ---- the digits after the point

@@ -5,9 +5,9 @@ use Rattle.integers.specs.Tests.{joined}
 use Rattle.calendar.specs.declared.Moment.{Moment}
 use Rattle.calendar.specs.Calendar.{leap, lengths, days_of_month, sum_to, days_of_year, days_before_year, days_before_month, Within, Real, is_real}
 use Rattle.calendar.specs.Calendar.{days_of, seconds_of, most_days, most_seconds, fitting, year_of, month_of, moment_of}
-use Rattle.calendar.specs.Sums.{one_more, fitting-most, fitting-low, fitting-high}
-use Rattle.calendar.specs.Years.{years-length}
-use Rattle.calendar.specs.Order.{by-year, one-to-one}
+use Rattle.calendar.proofs.Sums.{one_more, fitting-most, fitting-low, fitting-high}
+use Rattle.calendar.proofs.Years.{years-length}
+use Rattle.calendar.proofs.Order.{by-year, one-to-one}
 
 -- ---- the test of a moment
 

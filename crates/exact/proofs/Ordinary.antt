@@ -9,10 +9,12 @@ use Rattle.std.specs.Float.Ieee.Positive.{num, den, positive, den_pos, own_value
 use Rattle.integers.specs.Parts.{neg_part, integers, one-part, nat_abs-parts}
 use Rattle.exact.specs.declared.Exact.{Exact}
 use Rattle.exact.specs.Numerator.{D, numerator}
-use Rattle.exact.specs.Laws.{numerator-parts}
+use Rattle.exact.proofs.Laws.{numerator-parts}
 use Rattle.exact.specs.Report.{report_of}
-use Rattle.exact.specs.Rounding.{ordinary, plus-positive}
-use Rattle.exact.specs.FloatSums.{Fraction, fraction, quotient, sum-ordinary, sum-positive}
+use Rattle.exact.specs.Rounding.{ordinary}
+use Rattle.exact.proofs.Rounding.{plus-positive}
+use Rattle.exact.proofs.FloatSums.{Fraction}
+use Rattle.exact.proofs.FloatSums.{fraction, quotient, sum-ordinary, sum-positive}
 
 abbrev below-zero : ℤ → Bool
 below-zero (pos n) = false

@@ -6,7 +6,7 @@ use native.Mathlib.Omega.{arith}
 use Rattle.calendar.specs.declared.Moment.{Moment}
 use Rattle.calendar.specs.Calendar.{days_of_month, sum_to, days_of_year, days_before_year, days_before_month, Within, Real, days_of, seconds_of}
 use Rattle.calendar.specs.Calendar.{Before, here, next, fields, Earlier}
-use Rattle.calendar.specs.Sums.{earlier}
+use Rattle.calendar.proofs.Sums.{earlier}
 
 -- ---- dates
 

@@ -13,11 +13,11 @@ use Rattle.text.specs.declared.Unsigned.TheVariants as U
 use Rattle.text.specs.Places.{Stands}
 use Rattle.text.specs.Numbers.{digit, decimal, ascii, last_digits}
 use Rattle.text.specs.Reading.{is_digit, decimal_at}
-use Rattle.text.specs.DecimalBack.{other, refuted}
-use Rattle.text.specs.Back.{decimal-back, decimal-only}
+use Rattle.text.proofs.DecimalBack.{other, refuted}
+use Rattle.text.proofs.Back.{decimal-back, decimal-only}
 use Rattle.decimal.specs.Text.{fixed}
 use Rattle.decimal.specs.Reading.{more_digits, after_whole, with_decimals, size_at}
-use Rattle.decimal.specs.Digits.{length-last_digits, tenth, first-digit}
+use Rattle.decimal.proofs.Digits.{length-last_digits, tenth, first-digit}
 
 -- ---- a text in two pieces
 

@@ -12,13 +12,13 @@ use Rattle.text.specs.declared.Unsigned.{Unsigned}
 use Rattle.text.specs.declared.Unsigned.TheVariants as U
 use Rattle.text.specs.declared.Signed.TheVariants as S
 use Rattle.text.specs.Places.{Wrote, Stands}
-use Rattle.text.specs.Pieces.{up-to-end}
+use Rattle.text.proofs.Pieces.{up-to-end}
 use Rattle.text.specs.Numbers.{decimal, signed, hex, ascii}
 use Rattle.text.specs.Reading.{decimal_in, decimal_at, below, not_below, signed_at, hex_at}
-use Rattle.text.specs.DecimalBack.{NoDigit, ended, Splits}
-use Rattle.text.specs.DecimalBack as D
-use Rattle.text.specs.HexBack as H
-use Rattle.text.specs.Digits.{length-hex_digits}
+use Rattle.text.proofs.DecimalBack.{NoDigit, ended, Splits}
+use Rattle.text.proofs.DecimalBack as D
+use Rattle.text.proofs.HexBack as H
+use Rattle.text.proofs.Digits.{length-hex_digits}
 
 -- what a text begins with stands at its place
 stands : {s : List ℕ} {at : ℕ} {word : List ℕ} {end : ℕ} → Splits (drop at s) at word end → Stands s at word end

@@ -6,7 +6,7 @@ use Rattle.integers.specs.Tests.{joined}
 use Rattle.integers.specs.Parts.{integers, Within, sfits-within, neg-parts, +-parts, difference-parts}
 use Rattle.exact.specs.declared.Exact.{Exact}
 use Rattle.exact.specs.Numerator.{D, exact_of, numerator, between, Bounded}
-use Rattle.exact.specs.Laws.{numerator-parts, numerator-exact_of, part-below}
+use Rattle.exact.proofs.Laws.{numerator-parts, numerator-exact_of, part-below}
 
 pub wider : (h k : ℕ) (e : Exact) → Bounded h e → h ≤ k → Bounded k e
 wider h k e b l = omega (integers, neg-parts (pos h), neg-parts (pos k))
