@@ -1,5 +1,5 @@
 -- D times the coefficients, where D makes all of them whole. That it does is computed in `proofs/Scaled`.
-use Rattle.std.specs.Prelude.{ℕ, zero, suc, ◌≡◌, refl, Bool, true, false, List, [], ◌∷◌, ℤ}
+use Rattle.std.specs.Prelude.{ℕ, zero, suc, ◌≡◌, refl, Bool, true, false, List, [], ◌∷◌, ℤ, pos}
 use Rattle.std.proofs.Math.Bool.{and-eq-true_iff}
 use Rattle.integers.specs.Tests.{◌and◌}
 use Rattle.exact.specs.Numerator.{D}
@@ -23,10 +23,14 @@ unfoldable pub run : (f : ℕ → Fraction) (i n : ℕ) → all_whole f i n ≡ 
 run f i zero w = []
 run f i (suc n) w = times D (f i) (first f i n w) ∷ run f (suc i) n (later f i n w)
 
--- the same, and no list where D does not make all of them whole
-abbrev pub whole_by : (f : ℕ → Fraction) (i n : ℕ) (b : Bool) → all_whole f i n ≡ b → List ℤ
-whole_by f i n true w = run f i n w
-whole_by f i n false w = []
+-- the same with the proof found where there is one, and 0 where D does not make a coefficient whole
+abbrev pub times_by : (d : ℕ) (q : Fraction) (b : Bool) → is_whole d q ≡ b → ℤ
+times_by d q true w = times d q w
+times_by d q false w = pos 0
 
-abbrev pub whole_run : (ℕ → Fraction) → ℕ → ℕ → List ℤ
-whole_run f i n = whole_by f i n (all_whole f i n) refl
+abbrev pub whole_times : ℕ → Fraction → ℤ
+whole_times d q = times_by d q (is_whole d q) refl
+
+unfoldable pub whole_run : (ℕ → Fraction) → ℕ → ℕ → List ℤ
+whole_run f i zero = []
+whole_run f i (suc n) = whole_times D (f i) ∷ whole_run f (suc i) n
