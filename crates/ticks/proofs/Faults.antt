@@ -20,20 +20,23 @@ use Rattle.ticks.proofs.Meaning.{ticks-small}
 
 -- ---- the worse of two faults, by rank
 
-abbrev ranked : ℕ → Fault
-ranked zero = Nothing
-ranked (suc zero) = TooLarge
-ranked (suc (suc zero)) = Infinite
-ranked (suc (suc (suc n))) = NotANumber
-
-ranked-rank : (f : Fault) → ranked (rank f) ≡ f
-ranked-rank Nothing = refl
-ranked-rank TooLarge = refl
-ranked-rank Infinite = refl
-ranked-rank NotANumber = refl
-
 same_rank : (a b : Fault) → rank a ≡ rank b → a ≡ b
-same_rank a b e = sym (ranked-rank a) ∙ ap ranked e ∙ ranked-rank b
+same_rank Nothing Nothing e = refl
+same_rank Nothing TooLarge e = absurd (omega arith)
+same_rank Nothing Infinite e = absurd (omega arith)
+same_rank Nothing NotANumber e = absurd (omega arith)
+same_rank TooLarge Nothing e = absurd (omega arith)
+same_rank TooLarge TooLarge e = refl
+same_rank TooLarge Infinite e = absurd (omega arith)
+same_rank TooLarge NotANumber e = absurd (omega arith)
+same_rank Infinite Nothing e = absurd (omega arith)
+same_rank Infinite TooLarge e = absurd (omega arith)
+same_rank Infinite Infinite e = refl
+same_rank Infinite NotANumber e = absurd (omega arith)
+same_rank NotANumber Nothing e = absurd (omega arith)
+same_rank NotANumber TooLarge e = absurd (omega arith)
+same_rank NotANumber Infinite e = absurd (omega arith)
+same_rank NotANumber NotANumber e = refl
 
 rank-worse : (a b : Fault) → rank (worse a b) ≡ max (rank a) (rank b)
 rank-worse a b = go (ltb (rank a) (rank b)) refl
