@@ -7,7 +7,7 @@ use lib.IntN.{ℤ, pos, ◌+ℤ◌, ◌-ℤ◌, ◌*ℤ◌}
 use Rattle.integers.specs.Solver.{atom, terms, ring}
 use Rattle.integers.specs.Differences.{at, in_front, by_differences}
 use Rattle.exact.specs.Numerator.{D, numerator}
-use Rattle.exact.specs.Laws.{numerator-exact_of}
+use Rattle.exact.proofs.Laws.{numerator-exact_of}
 use Rattle.coefficients.specs.Fraction.{◌over◌, ◌⊗◌, ◌≐◌, times}
 use Rattle.coefficients.specs.Rules.{c, g, l, s, total, terms as terms_of, next, divided}
 use Rattle.coefficients.specs.Scaled.{first, later}
