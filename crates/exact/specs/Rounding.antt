@@ -1,4 +1,4 @@
--- Where rounding to a float gives an ordinary one, finite and not minus zero, and where one above zero. Nothing here is about exact values.
+-- What an ordinary float is: finite and not minus zero. Where rounding gives one is in `proofs/Rounding`.
 use Rattle.std.specs.Prelude.{Bool, true, false, ltb, Float}
 use Rattle.std.specs.Float.{nan, inf, fin}
 

@@ -1,4 +1,4 @@
--- Weighted backward differences of samples x(0), x(1), .., the newest first: the sums and their laws.
+-- Weighted backward differences of samples x(0), x(1), .., the newest first: the sums. Their laws are in `proofs/Differences`.
 use Rattle.std.specs.Prelude.{List, [], ◌∷◌, ℕ, zero, suc, ◌+◌, ℤ, pos, neg_ℤ, nat_abs, ◌+ℤ◌, ◌-ℤ◌, ◌*ℤ◌, get_or}
 
 -- a list's elements, and 0 past its end

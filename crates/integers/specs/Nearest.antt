@@ -1,5 +1,5 @@
 -- The whole number nearest to a fraction, and of two that are as near the even one: what that means, whatever way it is worked out,
--- and that exactly one number is.
+-- That exactly one number is shows `proofs/Nearest`.
 use Rattle.std.specs.Prelude.{◌≡◌, ℕ, suc, ◌*◌, ◌%◌, ◌≤◌, ℤ, pos, negsuc, neg_ℤ, nat_abs, ◌-ℤ◌, ◌*ℤ◌}
 use Rattle.std.specs.Float.Ieee.Nearest.{closest}
 

@@ -1,3 +1,3 @@
--- The laws that rest on definitions of `specs/`, in the module of the same name.
+-- What is known where tests were made in order (`Tests`), and the laws between the readings of a list of statements (`Readings`).
 pub mod Readings
 pub mod Tests

@@ -1,4 +1,4 @@
--- Tests made in order: the number that they give where the earlier ones failed, and what each said where no number or a given one came of it.
+-- Tests made in order: what each said where no number came of them. The laws are in `proofs/Tests`.
 use Rattle.std.specs.Prelude.{ℕ, ◌≡◌, Bool, true, false, not, List, [], ◌∷◌, eqb}
 use Rattle.integers.specs.Tests.{◌and◌}
 

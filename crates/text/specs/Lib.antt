@@ -1,5 +1,4 @@
--- What the contracts of `text` cite (`Places`, `Numbers`, `Reading`), the laws of writing (`Pieces`, `Rows`) and of digits (`Digits`),
--- and that what was printed is read back (`Back`).
+-- What the contracts of `text` cite (`Places`, `Numbers`, `Reading`), and what a row of numbers is (`Rows`). The laws are in `proofs/`.
 pub mod Places
 pub mod Numbers
 pub mod Reading
