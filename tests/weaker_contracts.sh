@@ -9,7 +9,8 @@ trap 'rm -rf "$room"' EXIT
 calls="open predict correct withdraw start refine run"
 failed=0
 
-# weakened NAME OLD NEW: a copy in which the line OLD of the seven contracts, an extended expression, reads NEW
+# weakened NAME PART OLD NEW: a copy in which the line OLD of the seven contracts, an extended expression, reads NEW, and the proofs of stepper
+# say so of that PART of what a step gives
 weakened() {
     copy=$room/$1
     mkdir -p "$copy/crates"
@@ -18,11 +19,12 @@ weakened() {
         mkdir -p "$copy/$crate/out"
         for part in src specs proofs out/rlib; do [ ! -d "$crate$part" ] || cp -r "$crate$part" "$copy/$crate$part"; done
     done
-    rm -r "$copy/crates/stepper/src/owned.rt" "$copy/crates/stepper/proofs/owned"
+    rm -rf "$copy/crates/stepper/src/owned.rt" "$copy/crates/stepper/proofs/owned"
     sed -i '/^pub mod owned;$/d' "$copy/crates/stepper/src/lib.rt"
     rm "$copy"/crates/promised/{specs,proofs}/ByValue.antt
     sed -i '/ByValue/d' "$copy"/crates/promised/{specs,proofs}/Lib.antt
-    sed -i -E "s/$2/$3/" "$copy/crates/stepper/src/lib.rt"
+    sed -i -E "s/$3/$4/" "$copy/crates/stepper/src/lib.rt"
+    sed -i -E "s/ap \(λ \(r : [A-Za-z]+\)\. r\.$2\) e,/refl,/; 0,/^use /s//use Rattle.std.proofs.Common.{refl}\nuse /" "$copy"/crates/stepper/proofs/*/Answers.antt
     changed=$(diff <(sed '/^pub mod owned;$/d' crates/stepper/src/lib.rt) "$copy/crates/stepper/src/lib.rt" | grep -c '^>')
     [ "$changed" -eq 7 ] || { echo "$1: $changed contracts were changed, and not seven"; failed=1; return; }
     if ! (cd "$copy/crates/stepper" && rt check >"$room/$1.below" 2>&1); then
@@ -41,6 +43,6 @@ weakened() {
     done
 }
 
-weakened any_record '\(s\.new ≡ .*\.session\)$' '(s.new ≡ s.new)'
-weakened any_answer '× \(result ≡ .*\.answer\)$' '× (result ≡ result)'
+weakened any_record session '\(s\.new ≡ .*\.session\)$' '(s.new ≡ s.new)'
+weakened any_answer answer '× \(result ≡ .*\.answer\)$' '× (result ≡ result)'
 exit "$failed"

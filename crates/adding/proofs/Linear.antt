@@ -5,7 +5,8 @@ use Prim.Native.Nat.{ℕ, zero, suc, ◌≤◌, ◌<◌}
 use native.Mathlib.Omega.{arith}
 use lib.IntN.{ℤ, pos, ◌+ℤ◌, ◌-ℤ◌, ◌*ℤ◌}
 use Rattle.integers.specs.Tactics.{atom, terms, ring}
-use Rattle.integers.specs.Differences.{by_differences, by-sum, same_first}
+use Rattle.integers.specs.Differences.{by_differences}
+use Rattle.integers.proofs.Differences.{by-sum, same_first}
 use Rattle.exact.specs.Numerator.{D}
 use Rattle.coefficients.specs.declared.Formula.{Formula}
 use Rattle.coefficients.specs.declared.Formula.TheVariants.{PositionPredictor, PositionCorrector, VelocityPredictor, VelocityCorrector}

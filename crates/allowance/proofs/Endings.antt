@@ -11,7 +11,7 @@ use lib.Dec.{eqb, leb}
 use lib.Ieee.{Float}
 use lib.ListN.{length, drop}
 use Rattle.rules.specs.Rules.{NotZero, first_of, Exactly, Unrefused, Decided}
-use Rattle.rules.specs.Readings.{decides, opposite, none_left, by_itself, first-decided, first-none, first-exactly}
+use Rattle.rules.proofs.Readings.{decides, opposite, none_left, by_itself, first-decided, first-none, first-exactly}
 use Rattle.ticks.specs.declared.Sample.{Sample}
 use Rattle.ticks.specs.Samples.{whole_of}
 use Rattle.session.specs.declared.Session.{Session}

@@ -7,8 +7,8 @@ use lib.IntN.{nat_abs, pos, ◌-ℤ◌}
 use Rattle.integers.specs.Tests.{joined}
 use Rattle.integers.specs.Parts.{nat_abs-parts, one-part, difference-parts}
 use Rattle.exact.specs.Numerator.{D, exact_of, numerator, Bounded}
-use Rattle.exact.specs.Laws.{part-below, same_true, same_refl, larger-size}
-use Rattle.exact.specs.Bounds.{numerator-within, widen}
+use Rattle.exact.proofs.Laws.{part-below, same_true, same_refl, larger-size}
+use Rattle.exact.proofs.Bounds.{numerator-within, widen}
 use Rattle.axis.specs.declared.Motion.{Motion}
 use Rattle.axis.specs.Formulas.{motion_of, still}
 use Rattle.axis.specs.Estimates.{same_motion}

@@ -7,8 +7,8 @@ use lib.IntN.{ℤ, pos, ◌+ℤ◌, +ℤ_assoc}
 use Rattle.integers.specs.Differences.{at, in_front, by_differences}
 use Rattle.exact.specs.declared.Exact.{Exact}
 use Rattle.exact.specs.Numerator.{exact_of, numerator, Bounded}
-use Rattle.exact.specs.Laws.{made}
-use Rattle.exact.specs.Bounds.{split-bounded}
+use Rattle.exact.proofs.Laws.{made}
+use Rattle.exact.proofs.Bounds.{split-bounded}
 use Rattle.coefficients.specs.declared.Formula.{Formula}
 use Rattle.coefficients.specs.declared.Formula.TheVariants.{PositionCorrector, VelocityCorrector}
 use Rattle.coefficients.specs.Formulas.{weights_of, older_part, own_part, Small}

@@ -8,7 +8,7 @@ use lib.Dec.{lit<}
 use lib.IntN.{ℤ, nat_abs}
 use Rattle.integers.specs.Tests.{joined}
 use Rattle.exact.specs.Numerator.{exact_of}
-use Rattle.exact.specs.Laws.{part-below}
+use Rattle.exact.proofs.Laws.{part-below}
 use Rattle.coefficients.specs.Formulas.{largest}
 use Rattle.coefficients.proofs.Samples.{cons}
 use Rattle.axis.specs.declared.Motion.{Motion}

@@ -10,7 +10,8 @@ use lib.Dec.{ltb}
 use lib.IntN.{ℤ, pos, nat_abs}
 use lib.ListN.{length, take, drop, set, replicate}
 use lib.Seq.{drop-cons}
-use Rattle.integers.specs.Tests.{◌and◌, eqℤ, eqℤ-true, joined, agree}
+use Rattle.integers.specs.Tests.{◌and◌, eqℤ, joined, agree}
+use Rattle.integers.proofs.Tests.{eqℤ-true}
 use Rattle.integers.specs.Differences.{at}
 use Rattle.coefficients.specs.Formulas.{Small, largest}
 use Rattle.coefficients.proofs.Samples.{none, cons}

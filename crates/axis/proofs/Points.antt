@@ -5,9 +5,10 @@ use Prim.Native.Nat.{ℕ, zero, suc, ◌-◌, ◌≤◌, ◌<◌}
 use native.Mathlib.Omega.{arith}
 use lib.IntN.{ℤ, ◌+ℤ◌, ◌-ℤ◌}
 use Rattle.integers.specs.Tactics.{atom, terms, ring}
-use Rattle.integers.specs.Differences.{at, in_front, by_differences, same_first, at-taken}
+use Rattle.integers.specs.Differences.{at, in_front, by_differences}
+use Rattle.integers.proofs.Differences.{same_first, at-taken}
 use Rattle.exact.specs.Numerator.{D, numerator}
-use Rattle.exact.specs.Laws.{numerator-exact_of, exact_of-numerator}
+use Rattle.exact.proofs.Laws.{numerator-exact_of, exact_of-numerator}
 use Rattle.coefficients.specs.declared.Formula.{Formula}
 use Rattle.coefficients.specs.declared.Formula.TheVariants.{PositionCorrector, VelocityCorrector}
 use Rattle.coefficients.specs.Formulas.{position_corrector, velocity_corrector, weights_of}

@@ -6,8 +6,8 @@ use lib.IntN.{ℤ, ◌+ℤ◌}
 use Rattle.integers.specs.Differences.{at, by_differences}
 use Rattle.exact.specs.declared.Exact.{Exact}
 use Rattle.exact.specs.Numerator.{exact_of, numerator, Bounded}
-use Rattle.exact.specs.Laws.{made}
-use Rattle.exact.specs.Bounds.{widen, split-bounded}
+use Rattle.exact.proofs.Laws.{made}
+use Rattle.exact.proofs.Bounds.{widen, split-bounded}
 use Rattle.coefficients.specs.declared.Formula.{Formula}
 use Rattle.coefficients.specs.Formulas.{weights_of, Small}
 use Rattle.coefficients.proofs.Bounds.{weighted-fits}

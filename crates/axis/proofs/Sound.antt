@@ -10,8 +10,8 @@ use Rattle.integers.specs.Parts.{integers}
 use Rattle.integers.specs.Differences.{at, by_differences}
 use Rattle.exact.specs.declared.Exact.{Exact}
 use Rattle.exact.specs.Numerator.{D, Bounded, between}
-use Rattle.exact.specs.Laws.{part-below}
-use Rattle.exact.specs.Bounds.{widen, between-bounded, before-move, before-difference}
+use Rattle.exact.proofs.Laws.{part-below}
+use Rattle.exact.proofs.Bounds.{widen, between-bounded, before-move, before-difference}
 use Rattle.coefficients.specs.declared.Formula.TheVariants.{PositionCorrector, VelocityCorrector}
 use Rattle.coefficients.specs.Formulas.{position_corrector, velocity_corrector, Small}
 use Rattle.coefficients.proofs.Bounds.{weighted-fits}

@@ -9,7 +9,7 @@ use mir.Facts.{to_z-of_z}
 use Rattle.integers.specs.Size.{product-sized, sized-fits}
 use Rattle.exact.specs.declared.Exact.{Exact}
 use Rattle.exact.specs.Numerator.{D, exact_of, numerator, Bounded}
-use Rattle.exact.specs.Bounds.{moved-bounded, lowered-bounded}
+use Rattle.exact.proofs.Bounds.{moved-bounded, lowered-bounded}
 use Rattle.axis.specs.Formulas.{motion_of, ticks}
 
 -- ---- a value moved by a call's result

@@ -12,7 +12,7 @@ use Rattle.integers.specs.Tests.{◌and◌, fails}
 use Rattle.calendar.specs.declared.Reading.TheVariants.{Time, Nothing}
 use Rattle.calendar.specs.Calendar.{is_real, seconds_of}
 use Rattle.calendar.specs.Text.{time_text, moment_in, same_text, time_in}
-use Rattle.calendar.specs.Back.{same_true, text-long}
+use Rattle.calendar.proofs.Back.{same_true, text-long}
 
 -- texts of two lengths differ
 pub unlike : (s t : List ℕ) → (length s ≡ length t → ⊥) → same_text s t ≡ false

@@ -1,10 +1,4 @@
--- What the contracts of `calendar` cite (`Calendar`, `Text`), the laws of sums and of the calendar (`Sums`, `Years`), and the theorems:
--- real moments are in the order of their seconds (`Order`), each number of seconds is that of one (`Moments`), and so is each text (`Back`).
+-- What the contracts of `calendar` cite (`Calendar`, `Text`), and figures (`Figures`). The theorems are in `proofs/`.
 pub mod Calendar
 pub mod Text
-pub mod Sums
-pub mod Years
-pub mod Order
-pub mod Moments
-pub mod Back
 pub mod Figures

@@ -1,5 +1,7 @@
 -- The changes of a first correction: on an axis from its formulas, and in a record that holds, whose estimate is its prediction.
 use mathlib.Core.Path.{◌≡◌, refl, sym, ap, ◌∙◌, subst}
+use mathlib.Core.Bool.{true}
+use lib.ListN.{take}
 use Prim.Native.Nat.{ℕ, ◌+◌, ◌≤◌}
 use native.Mathlib.Nat.{zero-add}
 use native.Mathlib.Omega.{arith}
@@ -7,10 +9,12 @@ use lib.IntN.{ℤ, pos, ◌+ℤ◌, ◌-ℤ◌, ◌*ℤ◌}
 use Rattle.integers.specs.Solver.{atom, terms, ring}
 use Rattle.integers.specs.Differences.{at, in_front, by_differences}
 use Rattle.exact.specs.Numerator.{D, numerator}
-use Rattle.exact.specs.Laws.{numerator-exact_of}
+use Rattle.exact.proofs.Laws.{numerator-exact_of}
 use Rattle.coefficients.specs.Fraction.{◌over◌, ◌⊗◌, ◌≐◌, times}
 use Rattle.coefficients.specs.Rules.{c, g, l, s, total, terms as terms_of, next, divided}
-use Rattle.coefficients.specs.Scaled.{first, later, g-whole, l-from-2, c-from-1, s-whole}
+use Rattle.coefficients.specs.Scaled.{all_whole, run, first, later}
+use Rattle.coefficients.proofs.Scaled.{g-whole, s-whole}
+use Rattle.coefficients.proofs.FromFirst.{whole_run-run, l-from-2, c-from-1}
 use Rattle.coefficients.specs.Formulas.{position_predictor, position_corrector, velocity_predictor, velocity_corrector}
 use Rattle.axis.specs.declared.Axis.{Axis}
 use Rattle.axis.specs.declared.Motion.{Motion}
@@ -55,20 +59,24 @@ module _ (p : ℕ) (h : p ≤ 9) (a : ℤ) (x : ℕ → ℤ) where
   positions : (by_differences (position_corrector p) (in_front a x) -ℤ by_differences (position_predictor p) x) over D ≐ s (p + 1) ⊗ difference p (in_front a x) over 1
   unfolding position_corrector position_predictor s
   positions =
-      let u = by_differences (position_corrector p) (in_front a x) in
-      let v = by_differences (position_predictor p) x in
-      subst (λ k. (u -ℤ v) over D ≐ s k ⊗ difference p (in_front a x) over 1) (turned p)
+      let w : all_whole s 2 9 ≡ true = later s 1 9 (later s 0 10 s-whole) in
+      let u = by_differences (take p (run l 2 9 l-from-2)) (in_front a x) in
+      let v = by_differences (take p (run s 2 9 w)) x in
+      rw (whole_run-run l 2 9 l-from-2, whole_run-run s 2 9 w)
+      (subst (λ k. (u -ℤ v) over D ≐ s k ⊗ difference p (in_front a x) over 1) (turned p)
       (subst (λ z. z over D ≐ s (1 + p) ⊗ difference p (in_front a x) over 1) (without (times D (s 1) (first s 1 9 (later s 0 10 s-whole))) a u v s-1)
-      (telescopes l 1 p 9 h l-from-2 (later s 0 10 s-whole) (in_front a x)))
+      (telescopes l 1 p 9 h l-from-2 (later s 0 10 s-whole) (in_front a x))))
 
   velocities : (ticks a +ℤ by_differences (velocity_corrector p) (in_front a x) -ℤ by_differences (velocity_predictor p) x) over D ≐ g p ⊗ difference p (in_front a x) over 1
   unfolding velocity_corrector velocity_predictor g
   velocities =
-      let u = by_differences (velocity_corrector p) (in_front a x) in
-      let v = by_differences (velocity_predictor p) x in
-      subst (λ k. (ticks a +ℤ u -ℤ v) over D ≐ g k ⊗ difference p (in_front a x) over 1) (zero-add p)
+      let w : all_whole g 1 9 ≡ true = later g 0 9 g-whole in
+      let u = by_differences (take p (run c 1 9 c-from-1)) (in_front a x) in
+      let v = by_differences (take p (run g 1 9 w)) x in
+      rw (whole_run-run c 1 9 c-from-1, whole_run-run g 1 9 w)
+      (subst (λ k. (ticks a +ℤ u -ℤ v) over D ≐ g k ⊗ difference p (in_front a x) over 1) (zero-add p)
       (subst (λ z. z over D ≐ g (0 + p) ⊗ difference p (in_front a x) over 1) (in-ticks (times D (g 0) (first g 0 9 g-whole)) a (pos D) u v g-0)
-      (telescopes c 0 p 9 h c-from-1 g-whole (in_front a x)))
+      (telescopes c 0 p 9 h c-from-1 g-whole (in_front a x))))
 
 -- ---- on an axis: the sums S1 and S2 cancel
 

@@ -12,7 +12,7 @@ use Rattle.rules.specs.Rules.{first_of}
 use Rattle.exact.specs.Numerator.{exact_of, numerator, same_exact}
 use Rattle.coefficients.specs.Fraction.{times}
 use Rattle.coefficients.specs.Rules.{c, g, l, s, total, terms, next, divided}
-use Rattle.coefficients.specs.Scaled.{run}
+use Rattle.coefficients.specs.Scaled.{run, whole_run}
 use Rattle.coefficients.specs.Formulas.{position_predictor, position_corrector, velocity_predictor, velocity_corrector, older_part}
 use Rattle.ticks.specs.Round.{rounded_of}
 use Rattle.ticks.specs.Samples.{any}
@@ -62,7 +62,7 @@ pub record Computed : Type 0 where
   pub explained : (explaining_accepted (waiting wide) a24).reason.value ≡ 1
 
 pub computed : Computed
-unfolding first_of by_differences exact_of numerator same_exact times c g l s total terms next divided run position_predictor position_corrector velocity_predictor velocity_corrector older_part rounded_of any of_int motion_of still older_motion present_motion predicted_motion corrected_motion opened_axis empty_axis same_motion in_range remainders_hold samples_small empty_zero older_holds points_hold settings_hold nowhere present_point estimate_of predicted_point corrected_point point_in_range points_agree settled_again awaiting_at opened_session closed_session counts_hold same_point settled_holds estimate_begins awaiting_holds holds settled awaiting exact_point axis_samples opened_with open_refusal full predict_refusal agrees is_last correct_refusal open_of predict_of correct_of placed moved first_from beside difference difference_on differences_with explained_by explain_of
+unfolding first_of by_differences exact_of numerator same_exact times c g l s total terms next divided run whole_run position_predictor position_corrector velocity_predictor velocity_corrector older_part rounded_of any of_int motion_of still older_motion present_motion predicted_motion corrected_motion opened_axis empty_axis same_motion in_range remainders_hold samples_small empty_zero older_holds points_hold settings_hold nowhere present_point estimate_of predicted_point corrected_point point_in_range points_agree settled_again awaiting_at opened_session closed_session counts_hold same_point settled_holds estimate_begins awaiting_holds holds settled awaiting exact_point axis_samples opened_with open_refusal full predict_refusal agrees is_last correct_refusal open_of predict_of correct_of placed moved first_from beside difference difference_on differences_with explained_by explain_of
 computed =
     record {
       table = (refl, (refl, (refl, (refl, (refl, (refl, (refl, (refl, (refl, (refl, (refl, (refl, (refl, tt)))))))))))));

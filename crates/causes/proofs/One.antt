@@ -9,11 +9,11 @@ use native.Mathlib.Omega.{arith}
 use lib.IntN.{ℤ, pos}
 use Rattle.integers.specs.Tests.{agree}
 use Rattle.rules.specs.Rules.{NotZero, Unrefused}
-use Rattle.rules.specs.Readings.{one-exactly, surely}
+use Rattle.rules.proofs.Readings.{one-exactly, surely}
 use Rattle.exact.specs.declared.Exact.{Exact}
 use Rattle.exact.specs.Numerator.{exact_of, numerator}
 use Rattle.exact.specs.Report.{report_of}
-use Rattle.exact.specs.Laws.{exact_of-numerator}
+use Rattle.exact.proofs.Laws.{exact_of-numerator}
 use Rattle.ticks.specs.declared.Sample.{Sample}
 use Rattle.ticks.specs.Samples.{axes_of, whole_of}
 use Rattle.session.specs.declared.Session.{Session}

@@ -12,9 +12,9 @@ use lib.IntN.{ℤ, pos}
 use lib.Ieee.{Float}
 use Rattle.integers.specs.Tests.{◌and◌}
 use Rattle.rules.specs.Rules.{NotZero, Exactly, Unrefused, Decides}
-use Rattle.rules.specs.Readings.{first-exactly}
+use Rattle.rules.proofs.Readings.{first-exactly}
 use Rattle.exact.specs.Numerator.{exact_of, numerator}
-use Rattle.exact.specs.Laws.{part-below, numerator-exact_of}
+use Rattle.exact.proofs.Laws.{part-below, numerator-exact_of}
 use Rattle.ticks.specs.declared.Sample.{Sample}
 use Rattle.ticks.specs.Samples.{axes_of, whole_of}
 use Rattle.session.specs.declared.Session.{Session}

@@ -10,9 +10,9 @@ use lib.Dec.{leb}
 use lib.Ieee.{Float}
 use Rattle.integers.specs.Tests.{not-true-iff}
 use Rattle.rules.specs.Rules.{Decides}
-use Rattle.rules.specs.Readings.{decides, opposite, surely}
+use Rattle.rules.proofs.Readings.{decides, opposite, surely}
 use Rattle.exact.specs.Numerator.{D, numerator, between}
-use Rattle.exact.specs.Laws.{part-below}
+use Rattle.exact.proofs.Laws.{part-below}
 use Rattle.ticks.specs.declared.Sample.{Sample}
 use Rattle.ticks.specs.Samples.{whole_of}
 use Rattle.axis.specs.Kinds.{Kind, of_position, of_velocity, tolerance_of, range_of, value_of}

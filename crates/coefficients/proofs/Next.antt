@@ -6,7 +6,8 @@ use native.Mathlib.Nat.{zero-add, suc-add}
 use native.Mathlib.Omega.{arith}
 use lib.IntN.{ℤ, pos, ◌+ℤ◌, ◌*ℤ◌, +ℤ_comm, +ℤ_idl, zero-*ℤ, *ℤ-zero}
 use lib.ListN.{take, drop}
-use Rattle.integers.specs.Differences.{at, in_front, by_samples, by_differences, ordinates, ordinates-law, sizes}
+use Rattle.integers.specs.Differences.{at, in_front, by_samples, by_differences, ordinates, sizes}
+use Rattle.integers.proofs.Differences.{ordinates-law}
 use Rattle.coefficients.specs.Formulas.{row, weights_of, older_part, own_part}
 use Rattle.coefficients.specs.declared.Formula.{Formula}
 use Rattle.coefficients.proofs.Rows.{row-law, length-weights, used-law}

@@ -7,7 +7,8 @@ use native.Mathlib.Omega.{arith}
 use lib.IntN.{ℤ, pos}
 use lib.ListN.{length, take, replicate, get_or}
 use lib.Seq.{take_at, length-take-le}
-use Rattle.integers.specs.Differences.{by_samples, by_differences, ordinates, ordinates-law, length-ordinates, padded}
+use Rattle.integers.specs.Differences.{by_samples, by_differences, ordinates}
+use Rattle.integers.proofs.Differences.{ordinates-law, length-ordinates, padded}
 use Rattle.coefficients.specs.Fraction.{Fraction}
 use Rattle.coefficients.specs.Scaled.{all_whole, run, later}
 use Rattle.coefficients.specs.Formulas.{row, listed, square_of, weights_of, coefficient_of, first_index}

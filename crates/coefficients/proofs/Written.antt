@@ -8,7 +8,8 @@ use lib.ListN.{take, replicate}
 use Rattle.integers.specs.Differences.{ordinates}
 use Rattle.coefficients.specs.Fraction.{times}
 use Rattle.coefficients.specs.Rules.{c, g, l, s, total, terms, next, divided}
-use Rattle.coefficients.specs.Scaled.{all_whole, run, c-from-1, g-from-1, l-from-2, s-from-2}
+use Rattle.coefficients.specs.Scaled.{all_whole, run}
+use Rattle.coefficients.proofs.FromFirst.{whole_run-run, c-from-1, g-from-1, l-from-2, s-from-2}
 use Rattle.coefficients.specs.Formulas.{weights_of, coefficient_of, first_index, row, position_predictor, position_corrector, velocity_predictor, velocity_corrector}
 use Rattle.coefficients.specs.declared.Formula.{Formula}
 use Rattle.coefficients.specs.declared.Formula.TheVariants.{PositionPredictor, PositionCorrector, VelocityPredictor, VelocityCorrector}
@@ -23,10 +24,10 @@ whole_of VelocityCorrector = c-from-1
 -- the weights for p points are the first p of nine
 pub weights-run : (f : Formula) (p : ℕ) → weights_of f p ≡ take p (run (coefficient_of f) (first_index f) 9 (whole_of f))
 unfolding position_predictor position_corrector velocity_predictor velocity_corrector whole_of
-weights-run PositionPredictor p = refl
-weights-run PositionCorrector p = refl
-weights-run VelocityPredictor p = refl
-weights-run VelocityCorrector p = refl
+weights-run PositionPredictor p = ap (take p) (whole_run-run s 2 9 s-from-2)
+weights-run PositionCorrector p = ap (take p) (whole_run-run l 2 9 l-from-2)
+weights-run VelocityPredictor p = ap (take p) (whole_run-run g 1 9 g-from-1)
+weights-run VelocityCorrector p = ap (take p) (whole_run-run c 1 9 c-from-1)
 
 unfoldable pub written : Formula → List ℤ
 written PositionPredictor = pos 13305600 ∷ pos 13305600 ∷ pos 12640320 ∷ pos 11975040 ∷ pos 11391600 ∷ pos 10890000 ∷ pos 10457524 ∷ pos 10081456 ∷ pos 9751299 ∷ []

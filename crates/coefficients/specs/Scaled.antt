@@ -1,10 +1,9 @@
--- D times the coefficients. Each list of them carries the proof that all are whole; the four proofs are computed here.
-use Rattle.std.specs.Prelude.{ℕ, zero, suc, ◌≡◌, refl, Bool, true, List, [], ◌∷◌, ℤ}
+-- D times the coefficients, where D makes all of them whole. That it does is computed in `proofs/Scaled`.
+use Rattle.std.specs.Prelude.{ℕ, zero, suc, ◌≡◌, refl, Bool, true, false, List, [], ◌∷◌, ℤ, pos}
 use Rattle.std.proofs.Math.Bool.{and-eq-true_iff}
 use Rattle.integers.specs.Tests.{◌and◌}
 use Rattle.exact.specs.Numerator.{D}
 use Rattle.coefficients.specs.Fraction.{Fraction, is_whole, times}
-use Rattle.coefficients.specs.Rules.{c, g, l, s, total, terms, next, divided}
 
 -- D f(i), .., D f(i+n-1) are whole
 abbrev pub all_whole : (ℕ → Fraction) → ℕ → ℕ → Bool
@@ -24,33 +23,14 @@ unfoldable pub run : (f : ℕ → Fraction) (i n : ℕ) → all_whole f i n ≡ 
 run f i zero w = []
 run f i (suc n) w = times D (f i) (first f i n w) ∷ run f (suc i) n (later f i n w)
 
--- ---- the coefficients that are used are whole times D: c and g to 9, l and s to 10 (D c(10) is not whole)
+-- the same with the proof found where there is one, and 0 where D does not make a coefficient whole
+abbrev pub times_by : (d : ℕ) (q : Fraction) (b : Bool) → is_whole d q ≡ b → ℤ
+times_by d q true w = times d q w
+times_by d q false w = pos 0
 
-pub c-whole : all_whole c 0 10 ≡ true
-unfolding c terms next divided
-c-whole = refl
+abbrev pub whole_times : ℕ → Fraction → ℤ
+whole_times d q = times_by d q (is_whole d q) refl
 
-pub g-whole : all_whole g 0 10 ≡ true
-unfolding g total c terms next divided
-g-whole = refl
-
-pub l-whole : all_whole l 0 11 ≡ true
-unfolding l total c terms next divided
-l-whole = refl
-
-pub s-whole : all_whole s 0 11 ≡ true
-unfolding s l total c terms next divided
-s-whole = refl
-
--- from the index on at which the formulas begin
-abbrev pub c-from-1 : all_whole c 1 9 ≡ true
-c-from-1 = later c 0 9 c-whole
-
-abbrev pub g-from-1 : all_whole g 1 9 ≡ true
-g-from-1 = later g 0 9 g-whole
-
-abbrev pub l-from-2 : all_whole l 2 9 ≡ true
-l-from-2 = later l 1 9 (later l 0 10 l-whole)
-
-abbrev pub s-from-2 : all_whole s 2 9 ≡ true
-s-from-2 = later s 1 9 (later s 0 10 s-whole)
+unfoldable pub whole_run : (ℕ → Fraction) → ℕ → ℕ → List ℤ
+whole_run f i zero = []
+whole_run f i (suc n) = whole_times D (f i) ∷ whole_run f (suc i) n

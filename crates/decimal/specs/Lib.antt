@@ -1,12 +1,5 @@
--- What the contracts of `decimal` cite (`Units`, `Text`, `Reading`), what the units are (`Meaning`), what a text looks like (`Form`),
--- that it is read back (`Back`), and the laws of rounding and of digits (`Rounding`, `Digits`).
+-- What the contracts of `decimal` cite (`Units`, `Text`, `Reading`), and figures (`Figures`). The laws are in `proofs/`.
 pub mod Units
 pub mod Text
 pub mod Reading
-pub mod Rounding
-pub mod Digits
-mod SizeBack
-pub mod Back
-pub mod Form
-pub mod Meaning
 pub mod Figures

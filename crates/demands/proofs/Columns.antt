@@ -5,7 +5,8 @@ use Prim.Native.Nat.{ℕ, zero, suc, ◌-◌, ◌≤◌}
 use native.Mathlib.Omega.{arith}
 use lib.IntN.{ℤ, pos, ◌+ℤ◌, ◌*ℤ◌, +ℤ_assoc, +ℤ_comm, zero-*ℤ}
 use lib.ListN.{length, drop, length-take}
-use Rattle.integers.specs.Differences.{at, older, by_samples, ordinates, length-ordinates}
+use Rattle.integers.specs.Differences.{at, older, by_samples, ordinates}
+use Rattle.integers.proofs.Differences.{length-ordinates}
 use Rattle.coefficients.specs.declared.Formula.{Formula}
 use Rattle.coefficients.specs.Scaled.{run}
 use Rattle.coefficients.specs.Formulas.{weights_of, coefficient_of, first_index, older_part}

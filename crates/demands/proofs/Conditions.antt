@@ -37,7 +37,7 @@ use Rattle.epoch_coefficients.proofs.Centre.{of-each}
 use Rattle.epoch_session.specs.declared.Round.{Round}
 use Rattle.epoch_session.specs.Rounds.{earlier_point, rounds_agree}
 use Rattle.epoch_session.specs.Records.{held_round}
-use Rattle.rules.specs.Readings.{decides}
+use Rattle.rules.proofs.Readings.{decides}
 
 -- ---- floats
 

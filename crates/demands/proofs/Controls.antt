@@ -20,7 +20,7 @@ use Rattle.session.specs.Moves.{corrected_point, settled_again, closed_session}
 use Rattle.session.proofs.Rules.{resting}
 use Rattle.session.specs.Holding.{holds}
 use Rattle.rules.specs.Rules.{NotZero, Unrefused}
-use Rattle.rules.specs.Readings.{surely}
+use Rattle.rules.proofs.Readings.{surely}
 use Rattle.steps.specs.Steps.{predict_of, correct_of, withdraw_of}
 use Rattle.session.specs.Coordinates.{on_x}
 use Rattle.demands.specs.Histories.{ours, predict, step, event, after, history, entries}

@@ -7,7 +7,8 @@ use native.Mathlib.Nat.{zero-add, suc-add}
 use lib.IntN.{ℤ, pos, neg_ℤ, ◌+ℤ◌, ◌-ℤ◌, ◌*ℤ◌}
 use lib.ListN.{length}
 use Rattle.integers.specs.Tactics.{atom, terms, ring}
-use Rattle.integers.specs.Differences.{by_differences, back, older, by-older}
+use Rattle.integers.specs.Differences.{by_differences, back, older}
+use Rattle.integers.proofs.Differences.{by-older}
 use Rattle.exact.specs.Numerator.{D, numerator}
 use Rattle.coefficients.specs.Formulas.{position_corrector, velocity_corrector, unsummed_cowell, adams_moulton}
 use Rattle.coefficients.proofs.Unsummed.{cowell-begins, adams-begins}

@@ -11,7 +11,7 @@ use Rattle.integers.specs.Differences.{by_differences}
 use Rattle.exact.specs.Numerator.{D, exact_of, numerator, same_exact}
 use Rattle.coefficients.specs.Fraction.{times}
 use Rattle.coefficients.specs.Rules.{c, g, l, s, total, terms, next, divided}
-use Rattle.coefficients.specs.Scaled.{run}
+use Rattle.coefficients.specs.Scaled.{run, whole_run}
 use Rattle.coefficients.specs.Formulas.{position_predictor, position_corrector, velocity_predictor, velocity_corrector, unsummed_cowell, adams_moulton, older_part}
 use Rattle.ticks.specs.declared.Sample.{Sample}
 use Rattle.ticks.specs.declared.WholeSample.{WholeSample}
@@ -200,7 +200,7 @@ pub record Computed : Type 0 where
   pub no_agains : agains (start wide).corrections (history inventing_corrections (start wide) (predict ∷ [])) ≡ 0
 
 pub computed : Computed
-unfolding add div of_int first_of by_differences exact_of numerator same_exact times c g l s total terms next divided run position_predictor position_corrector velocity_predictor velocity_corrector older_part unsummed_cowell adams_moulton rounded_of any motion_of still older_motion present_motion predicted_motion corrected_motion kept_samples advanced_axis opened_axis empty_axis same_motion in_range change_of sizes agrees_on remainders_hold samples_small empty_zero older_holds points_hold settings_hold nowhere present_point estimate_of predicted_point corrected_point point_in_range points_agree point_change settled_again awaiting_at accepted_at opened_session closed_session counts_hold same_point settled_holds estimate_begins awaiting_holds holds settled awaiting reported_motion reported_point reported_change no_point no_change exact_point axis_samples opened_with open_refusal full predict_refusal agrees largest_change is_last correct_refusal withdraw_refusal open_of predict_of correct_of withdraw_of first_sum second_before position_at next_position
+unfolding add div of_int first_of by_differences exact_of numerator same_exact times c g l s total terms next divided run whole_run position_predictor position_corrector velocity_predictor velocity_corrector older_part unsummed_cowell adams_moulton rounded_of any motion_of still older_motion present_motion predicted_motion corrected_motion kept_samples advanced_axis opened_axis empty_axis same_motion in_range change_of sizes agrees_on remainders_hold samples_small empty_zero older_holds points_hold settings_hold nowhere present_point estimate_of predicted_point corrected_point point_in_range points_agree point_change settled_again awaiting_at accepted_at opened_session closed_session counts_hold same_point settled_holds estimate_begins awaiting_holds holds settled awaiting reported_motion reported_point reported_change no_point no_change exact_point axis_samples opened_with open_refusal full predict_refusal agrees largest_change is_last correct_refusal withdraw_refusal open_of predict_of correct_of withdraw_of first_sum second_before position_at next_position
 computed =
     record {
       opens = refl;

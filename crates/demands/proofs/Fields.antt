@@ -6,7 +6,8 @@ use Prim.Native.Nat.{ℕ, zero, suc, ◌^◌, ◌≤◌, zero-le}
 use native.Mathlib.Omega.{arith}
 use borrow.Author.Tests.{leb-true, le-leb, lt-ltb}
 use lib.IntN.{ℤ, pos, nat_abs}
-use Rattle.integers.specs.Tests.{eqℤ, eqℤ-true, joined}
+use Rattle.integers.specs.Tests.{eqℤ, joined}
+use Rattle.integers.proofs.Tests.{eqℤ-true}
 use Rattle.integers.specs.Parts.{integers, nat_abs-parts, one-part}
 use Rattle.integers.specs.Differences.{at}
 use Rattle.exact.specs.declared.Exact.{Exact}

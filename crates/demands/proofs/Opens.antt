@@ -5,7 +5,8 @@ use Prim.Native.Nat.{ℕ, ◌+◌, ◌*◌, ◌-◌, ◌<◌}
 use native.Mathlib.Omega.{arith}
 use lib.ListN.{length, get_or}
 use lib.Ieee.{Float}
-use Rattle.integers.specs.Differences.{at, at-taken}
+use Rattle.integers.specs.Differences.{at}
+use Rattle.integers.proofs.Differences.{at-taken}
 use Rattle.ticks.specs.Round.{rounded_of, ticks_in}
 use Rattle.axis.specs.Formulas.{places, opened_axis}
 use Rattle.session.specs.declared.Session.{Session}

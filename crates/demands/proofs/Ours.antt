@@ -30,7 +30,7 @@ use Rattle.demands.proofs.Cowell.{unsummed, last}
 use Rattle.demands.proofs.Alike.{same_point}
 use Rattle.demands.proofs.Conditions.{agreement, rounds-apart}
 use Rattle.demands.proofs.Tables.{open-first, predict-first, correct-first, withdraw-first, start_first, refine-first}
-use Rattle.rules.specs.Readings.{first-exactly, first-none}
+use Rattle.rules.proofs.Readings.{first-exactly, first-none}
 use Rattle.epoch_steps.proofs.Refusals.{start-refuses}
 use mathlib.Core.Logic.{◌↔◌, ◌⊎◌, inl, inr, ⊎_elim}
 use Rattle.demands.proofs.Records.{open-record, starting-record}

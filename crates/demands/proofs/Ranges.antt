@@ -10,7 +10,7 @@ use Rattle.integers.specs.Tests.{joined}
 use Rattle.integers.specs.Parts.{integers, neg-parts}
 use Rattle.exact.specs.declared.Exact.{Exact}
 use Rattle.exact.specs.Numerator.{D, numerator, between}
-use Rattle.exact.specs.Laws.{numerator-parts, part-below}
+use Rattle.exact.proofs.Laws.{numerator-parts, part-below}
 use Rattle.ticks.specs.declared.WholeSample.{WholeSample}
 use Rattle.axis.specs.declared.Motion.{Motion}
 use Rattle.axis.specs.Formulas.{motion_of, present_motion, predicted_motion, corrected_motion}
@@ -25,7 +25,7 @@ use Rattle.session.specs.Requests.{exact_point}
 use Rattle.session.proofs.Coordinates.{on-each, present-on, predicted-on, corrected-on}
 use Rattle.session.proofs.Values.{range-iff}
 use Rattle.rules.specs.Rules.{Decides}
-use Rattle.rules.specs.Readings.{decides, both}
+use Rattle.rules.proofs.Readings.{decides, both}
 use Rattle.epoch_axis.specs.Formulas.{earlier_motion}
 use Rattle.epoch_session.specs.declared.Round.{Round}
 use Rattle.epoch_session.specs.Rounds.{earlier_point, every_below, round_in_range}

@@ -10,7 +10,7 @@ use Rattle.integers.specs.Tests.{joined}
 use Rattle.integers.specs.Differences.{at}
 use Rattle.exact.specs.declared.Exact.{Exact}
 use Rattle.exact.specs.Numerator.{exact_of, same_exact}
-use Rattle.exact.specs.Laws.{same_true, same_refl}
+use Rattle.exact.proofs.Laws.{same_true, same_refl}
 use Rattle.axis.specs.declared.Axis.{Axis}
 use Rattle.axis.specs.Formulas.{still}
 use Rattle.axis.specs.Estimates.{in_range}
@@ -27,7 +27,7 @@ use Rattle.session.proofs.Coordinates.{on-each, point-by, present-on, estimate-o
 use Rattle.session.proofs.Values.{range-iff}
 use Rattle.session.proofs.Rules.{KeepsRules, holding, counts-are, counts-hold, settled-holds, resting, settled-by, awaiting-holds, expecting, awaiting-by}
 use Rattle.rules.specs.Rules.{Decides}
-use Rattle.rules.specs.Readings.{decides}
+use Rattle.rules.proofs.Readings.{decides}
 use Rattle.epoch_coefficients.specs.Formulas.{has_centre}
 use Rattle.epoch_coefficients.proofs.Centre.{of-each}
 use Rattle.epoch_session.specs.Records.{held_round, sums_zero, epoch_holds, axis_starts, starting}

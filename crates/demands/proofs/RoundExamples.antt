@@ -10,7 +10,7 @@ use Rattle.integers.specs.Differences.{by_differences}
 use Rattle.exact.specs.Numerator.{D, exact_of, numerator, same_exact}
 use Rattle.coefficients.specs.Fraction.{times}
 use Rattle.coefficients.specs.Rules.{c, l, total, terms, next, divided}
-use Rattle.coefficients.specs.Scaled.{run}
+use Rattle.coefficients.specs.Scaled.{run, whole_run}
 use Rattle.coefficients.specs.Formulas.{position_corrector, velocity_corrector, older_part}
 use Rattle.ticks.specs.Round.{rounded_of}
 use Rattle.ticks.specs.Samples.{any}
@@ -128,7 +128,7 @@ pub record Computed : Type 0 where
   pub counted_once : mores 0 (history never_counting begun moved) ≡ 1
 
 pub computed : Computed
-unfolding add div of_int first_of by_differences exact_of numerator same_exact times c l total terms next divided run position_corrector velocity_corrector older_part rounded_of any motion_of still older_motion same_motion in_range change_of sizes agrees_on samples_small empty_zero places_hold points_hold settings_hold nowhere estimate_of point_in_range points_agree point_change closed_session reported_motion reported_point reported_change no_point no_change exact_point axis_samples open_refusal open_of is_last less_before cut earlier_position earlier_velocity has_centre next_sums back_sums run_on run_back newest_sums earlier_motion centre_sums started_axis held_round sums_zero older_zero epoch_holds axis_starts axes_start start_holds starting starting_axis starting_session opened_round round_of earlier_point every_below largest_below round_in_range rounds_agree largest_move points_from round_points no_points given_round start_refusal later_round refine_refusal start_of refine_of
+unfolding add div of_int first_of by_differences exact_of numerator same_exact times c l total terms next divided run whole_run position_corrector velocity_corrector older_part rounded_of any motion_of still older_motion same_motion in_range change_of sizes agrees_on samples_small empty_zero places_hold points_hold settings_hold nowhere estimate_of point_in_range points_agree point_change closed_session reported_motion reported_point reported_change no_point no_change exact_point axis_samples open_refusal open_of is_last less_before cut earlier_position earlier_velocity has_centre next_sums back_sums run_on run_back newest_sums earlier_motion centre_sums started_axis held_round sums_zero older_zero epoch_holds axis_starts axes_start start_holds starting starting_axis starting_session opened_round round_of earlier_point every_below largest_below round_in_range rounds_agree largest_move points_from round_points no_points given_round start_refusal later_round refine_refusal start_of refine_of
 computed =
     record {
       unrefused = refl;

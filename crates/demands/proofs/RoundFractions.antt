@@ -7,9 +7,10 @@ use native.Mathlib.Omega.{arith}
 use lib.IntN.{ℤ, pos, ◌+ℤ◌, ◌-ℤ◌}
 use lib.Ieee.{Float}
 use lib.ListN.{take, replicate, get_or}
-use Rattle.integers.specs.Differences.{at, past-taken, by_differences}
+use Rattle.integers.specs.Differences.{at, by_differences}
+use Rattle.integers.proofs.Differences.{past-taken}
 use Rattle.exact.specs.Numerator.{D, numerator}
-use Rattle.exact.specs.Laws.{numerator-exact_of}
+use Rattle.exact.proofs.Laws.{numerator-exact_of}
 use Rattle.coefficients.specs.Fraction.{◌over◌}
 use Rattle.epoch_coefficients.specs.Formulas.{has_centre, earlier_position, earlier_velocity}
 use Rattle.epoch_coefficients.proofs.Applied.{position-applied, velocity-applied}

@@ -8,7 +8,8 @@ use native.Mathlib.Numerals.{add-one}
 use lib.Dec.{eqb}
 use lib.Ieee.{Float}
 use Rattle.integers.specs.Tests.{clash, fails}
-use Rattle.integers.specs.Differences.{at, at-taken}
+use Rattle.integers.specs.Differences.{at}
+use Rattle.integers.proofs.Differences.{at-taken}
 use Rattle.axis.specs.Formulas.{places}
 use Rattle.session.specs.declared.Session.{Session}
 use Rattle.session.specs.Moves.{estimate_of, closed_session}
@@ -18,7 +19,7 @@ use Rattle.rules.specs.Rules.{NotZero}
 use Rattle.session.specs.Requests.{Request}
 use Rattle.steps.specs.Opening.{axis_samples}
 use Rattle.steps.proofs.Results.{predict-gives, correct-gives, withdraw-gives}
-use Rattle.rules.specs.Tests.{hit-not}
+use Rattle.rules.proofs.Tests.{hit-not}
 use Rattle.steps.proofs.Left.{predict-leaves, correct-leaves, withdraw-leaves}
 use Rattle.epoch_session.specs.Rounds.{rounds_agree}
 use Rattle.epoch_session.specs.Records.{held_round, starting}

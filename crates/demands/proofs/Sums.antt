@@ -6,7 +6,7 @@ use lib.IntN.{ℤ}
 use Rattle.integers.specs.Differences.{at}
 use Rattle.exact.specs.declared.Exact.{Exact}
 use Rattle.exact.specs.Numerator.{exact_of, numerator}
-use Rattle.exact.specs.Laws.{part-below, made, exact_of-numerator}
+use Rattle.exact.proofs.Laws.{part-below, made, exact_of-numerator}
 use Rattle.axis.specs.declared.Motion.{Motion}
 use Rattle.axis.specs.Kinds.{Kind, of_position, of_velocity, value_of}
 use Rattle.axis.specs.Formulas.{still, older_motion}

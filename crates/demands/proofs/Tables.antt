@@ -2,7 +2,7 @@
 use mathlib.Core.List.{List}
 use lib.Ieee.{Float}
 use Rattle.rules.specs.Rules.{Decided, First}
-use Rattle.rules.specs.Readings.{opposite, both, surely, none_left, by_itself, and_then, and-also, first-decided}
+use Rattle.rules.proofs.Readings.{opposite, both, surely, none_left, by_itself, and_then, and-also, first-decided}
 use Rattle.ticks.specs.declared.Sample.{Sample}
 use Rattle.ticks.specs.Samples.{axes_of, whole_of}
 use Rattle.session.specs.declared.Session.{Session}

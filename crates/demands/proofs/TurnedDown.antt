@@ -28,7 +28,7 @@ use Rattle.demands.proofs.RoundsTurnedDown as R
 use Rattle.demands.proofs.Examples.{wide, turning, turning_once, waiting, start, a24, round, repeating_once, repeating_waits, predicted, state_number, computed, none}
 use Rattle.demands.proofs.Conditions.{agreement}
 use Rattle.demands.proofs.Tables.{correct-first}
-use Rattle.rules.specs.Readings.{one-exactly}
+use Rattle.rules.proofs.Readings.{one-exactly}
 use Rattle.steps.specs.Refusals.{correct_refusal}
 
 clash : ◌≡◌ {A = ℕ} 0 1 → ⊥

@@ -39,7 +39,7 @@ use Rattle.demands.specs.Demands.{open_number, predict_number, correct_number, w
 use Rattle.demands.proofs.Conditions.{agreement, rounds-apart}
 use Rattle.demands.proofs.Tables.{open-first, predict-first, correct-first, withdraw-first, start_first, refine-first}
 use Rattle.demands.proofs.Ours.{open_none, predict-none, correct-none, withdraw-none, start_none, refine-none}
-use Rattle.rules.specs.Readings.{one-first, one-exactly}
+use Rattle.rules.proofs.Readings.{one-first, one-exactly}
 use Rattle.demands.specs.Theorems.{Replaces}
 
 -- ---- a refusal's number is its answer

@@ -6,7 +6,7 @@ use Prim.Native.Nat.{ℕ, zero, suc, ◌<◌}
 use lib.IntN.{ℤ, ◌+ℤ◌, ◌-ℤ◌}
 use Rattle.integers.specs.Differences.{at, by_differences}
 use Rattle.exact.specs.Numerator.{D, exact_of, numerator}
-use Rattle.exact.specs.Laws.{part-below, numerator-exact_of, exact_of-numerator}
+use Rattle.exact.proofs.Laws.{part-below, numerator-exact_of, exact_of-numerator}
 use Rattle.epoch_coefficients.specs.Formulas.{cut, earlier_position, earlier_velocity}
 use Rattle.axis.specs.declared.Motion.{Motion}
 use Rattle.axis.specs.declared.Axis.{Axis}

@@ -6,8 +6,8 @@ use native.Mathlib.Numerals.{unary_clauses}
 use native.Mathlib.Omega.{arith}
 use lib.IntN.{ℤ, nat_abs, ◌-ℤ◌}
 use Rattle.exact.specs.Numerator.{numerator, Bounded}
-use Rattle.exact.specs.Laws.{numerator-exact_of}
-use Rattle.exact.specs.Bounds.{wider, sum-within, difference-within, moved-bounded, lowered-bounded}
+use Rattle.exact.proofs.Laws.{numerator-exact_of}
+use Rattle.exact.proofs.Bounds.{wider, sum-within, difference-within, moved-bounded, lowered-bounded}
 use Rattle.axis.specs.Formulas.{ticks}
 use Rattle.axis.proofs.Places.{less_one}
 use Rattle.axis.proofs.Sums.{ticks-fit}

@@ -6,7 +6,7 @@ use Prim.Native.Nat.{ℕ, ◌+◌, ◌*◌, ◌^◌, ◌≤◌, ◌<◌}
 use native.Mathlib.Omega.{arith}
 use lib.IntN.{ℤ}
 use Rattle.integers.specs.Differences.{at}
-use Rattle.exact.specs.Bounds.{wider, widen, sum-within, lowered-bounded}
+use Rattle.exact.proofs.Bounds.{wider, widen, sum-within, lowered-bounded}
 use Rattle.coefficients.specs.Formulas.{Small}
 use Rattle.coefficients.specs.declared.Formula.TheVariants.{PositionCorrector, VelocityCorrector}
 use Rattle.epoch_coefficients.specs.Formulas.{has_centre, earlier_position, earlier_velocity}

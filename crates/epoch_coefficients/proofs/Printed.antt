@@ -7,7 +7,7 @@ use lib.Dec.{lit≤}
 use lib.IntN.{pos, ◌*ℤ◌}
 use lib.ListN.{take}
 use Rattle.integers.specs.Differences.{at}
-use Rattle.integers.specs.Tests.{eqℤ-true}
+use Rattle.integers.proofs.Tests.{eqℤ-true}
 use Rattle.exact.specs.Numerator.{D}
 use Rattle.coefficients.specs.Fraction.{Fraction, denominator, ◌over◌, ◌≐◌, same}
 use Rattle.coefficients.specs.declared.Formula.{Formula}

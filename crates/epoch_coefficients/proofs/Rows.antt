@@ -11,7 +11,8 @@ use lib.IntN.{ℤ, pos, nat_abs}
 use lib.ListN.{length, take, replicate, get_or}
 use mir.Syntax.{w64}
 use mir.Val.{SFits}
-use Rattle.integers.specs.Differences.{by_samples, by_differences, ordinates, spread, sizes, size-of-sum}
+use Rattle.integers.specs.Differences.{by_samples, by_differences, ordinates, spread, sizes}
+use Rattle.integers.proofs.Differences.{size-of-sum}
 use Rattle.integers.specs.Size.{sfits-of-size}
 use Rattle.coefficients.specs.Formulas.{row, listed, weights_of, heaviest, largest}
 use Rattle.coefficients.specs.declared.Formula.{Formula}

@@ -8,7 +8,7 @@ use borrow.Author.Tests.{eq-eqb}
 use lib.IntN.{ℤ, pos}
 use Rattle.integers.specs.Tests.{joined}
 use Rattle.exact.specs.Numerator.{exact_of}
-use Rattle.exact.specs.Laws.{same_refl}
+use Rattle.exact.proofs.Laws.{same_refl}
 use Rattle.epoch_coefficients.specs.Formulas.{has_centre}
 use Rattle.epoch_coefficients.proofs.Centre.{at-least-3, at-most-9}
 use Rattle.axis.specs.declared.Motion.{Motion}

@@ -6,7 +6,7 @@ use lib.IntN.{pos}
 use lib.Ieee.{Float}
 use Rattle.integers.specs.Parts.{integers}
 use Rattle.exact.specs.Numerator.{D, exact_of, numerator}
-use Rattle.exact.specs.Laws.{numerator-exact_of}
+use Rattle.exact.proofs.Laws.{numerator-exact_of}
 use Rattle.axis.specs.Kinds.{Kind}
 use Rattle.session.specs.declared.Session.{Session}
 use Rattle.session.proofs.Apart.{Over}

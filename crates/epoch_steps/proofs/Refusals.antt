@@ -7,7 +7,7 @@ use borrow.Author.Tests.{not-false, ne_eqb}
 use lib.Ieee.{Float}
 use Rattle.integers.specs.Tests.{◌and◌}
 use Rattle.rules.specs.Rules.{NotZero, Gives}
-use Rattle.rules.specs.Tests.{clear}
+use Rattle.rules.proofs.Tests.{clear}
 use Rattle.epoch_coefficients.specs.Formulas.{has_centre}
 use Rattle.axis.specs.declared.Tolerances.{Tolerances}
 use Rattle.session.specs.declared.Point.{Point}

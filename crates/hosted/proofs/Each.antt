@@ -10,7 +10,7 @@ use lib.ListN.{length}
 use borrow.Author.Tests.{eqb-true, eq-eqb}
 use Rattle.integers.specs.Tests.{◌and◌, clash, fails}
 use Rattle.rules.specs.Rules.{NotZero, Decides}
-use Rattle.rules.specs.Readings.{decides, both}
+use Rattle.rules.proofs.Readings.{decides, both}
 use Rattle.session.specs.declared.Session.{Session}
 use Rattle.session.specs.Moves.{closed_session}
 use Rattle.session.specs.Holding.{holds}

@@ -7,7 +7,7 @@ use Rattle.rules.specs.Rules.{first_of}
 use Rattle.exact.specs.Numerator.{exact_of, numerator, same_exact}
 use Rattle.coefficients.specs.Fraction.{times}
 use Rattle.coefficients.specs.Rules.{c, g, l, s, total, terms, next, divided}
-use Rattle.coefficients.specs.Scaled.{run}
+use Rattle.coefficients.specs.Scaled.{run, whole_run}
 use Rattle.coefficients.specs.Formulas.{position_predictor, position_corrector, velocity_predictor, velocity_corrector, older_part}
 use Rattle.ticks.specs.Round.{rounded_of}
 use Rattle.ticks.specs.Samples.{any}
@@ -35,5 +35,5 @@ use Rattle.host.specs.Calls.{host_open, on_image}
 use Rattle.hosted.specs.Figures.{figures}
 
 pub as-worked : All figures
-unfolding add div of_int of_bits to_bits first_of by_differences exact_of numerator same_exact times c g l s total terms next divided run position_predictor position_corrector velocity_predictor velocity_corrector older_part rounded_of any motion_of still older_motion present_motion predicted_motion corrected_motion kept_samples advanced_axis opened_axis empty_axis same_motion in_range change_of sizes agrees_on remainders_hold samples_small empty_zero older_holds points_hold settings_hold nowhere present_point estimate_of predicted_point corrected_point point_in_range points_agree point_change settled_again awaiting_at accepted_at opened_session closed_session counts_hold same_point settled_holds estimate_begins awaiting_holds holds settled awaiting starting reported_motion reported_point reported_change no_point no_change exact_point axis_samples opened_with open_refusal full predict_refusal agrees largest_change is_last correct_refusal withdraw_refusal open_of predict_of correct_of withdraw_of bytes_of in_bytes from_bytes word_at same_bytes exact_words motion_words settings_words axis_sums sums_words place_words places_words estimate_words contents record_words record_bytes stands standing image_of exact_at motion_at samples_at axis_at state_of tolerances_at session_in held_in is_image reported_words motion_reported point_reported answer_words answer_bytes floats_in float_count host_open on_image
+unfolding add div of_int of_bits to_bits first_of by_differences exact_of numerator same_exact times c g l s total terms next divided run whole_run position_predictor position_corrector velocity_predictor velocity_corrector older_part rounded_of any motion_of still older_motion present_motion predicted_motion corrected_motion kept_samples advanced_axis opened_axis empty_axis same_motion in_range change_of sizes agrees_on remainders_hold samples_small empty_zero older_holds points_hold settings_hold nowhere present_point estimate_of predicted_point corrected_point point_in_range points_agree point_change settled_again awaiting_at accepted_at opened_session closed_session counts_hold same_point settled_holds estimate_begins awaiting_holds holds settled awaiting starting reported_motion reported_point reported_change no_point no_change exact_point axis_samples opened_with open_refusal full predict_refusal agrees largest_change is_last correct_refusal withdraw_refusal open_of predict_of correct_of withdraw_of bytes_of in_bytes from_bytes word_at same_bytes exact_words motion_words settings_words axis_sums sums_words place_words places_words estimate_words contents record_words record_bytes stands standing image_of exact_at motion_at samples_at axis_at state_of tolerances_at session_in held_in is_image reported_words motion_reported point_reported answer_words answer_bytes floats_in float_count host_open on_image
 as-worked = (refl, (refl, (refl, (refl, (refl, (refl, (refl, (refl, tt))))))))

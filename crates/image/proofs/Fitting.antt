@@ -9,12 +9,13 @@ use lib.IntN.{ℤ, pos}
 use mir.Syntax.{w64}
 use mir.Val.{SFits}
 use Rattle.integers.specs.Size.{sfits-of-size}
-use Rattle.integers.specs.Differences.{at, past-taken}
+use Rattle.integers.specs.Differences.{at}
+use Rattle.integers.proofs.Differences.{past-taken}
 use Rattle.integers.specs.Tests.{joined}
 use Rattle.exact.specs.declared.Exact.{Exact}
 use Rattle.exact.specs.Numerator.{exact_of, Bounded}
-use Rattle.exact.specs.Laws.{same_true}
-use Rattle.exact.specs.Bounds.{widen, bounded-fits, split-bounded}
+use Rattle.exact.proofs.Laws.{same_true}
+use Rattle.exact.proofs.Bounds.{widen, bounded-fits, split-bounded}
 use Rattle.coefficients.specs.Formulas.{Small}
 use Rattle.epoch_coefficients.proofs.Centre.{at-most-9}
 use Rattle.axis.specs.declared.Motion.{Motion}

@@ -9,7 +9,7 @@ use Rattle.session.specs.declared.Session.{Session}
 use Rattle.session.specs.Moves.{closed_session}
 use Rattle.image.specs.declared.Loaded.{Loaded}
 use Rattle.image.specs.Bytes.{in_bytes}
-use Rattle.image.specs.Words.{length-in_bytes, same_bytes-true, same-same_bytes}
+use Rattle.image.proofs.WordLaws.{length-in_bytes, same_bytes-true, same-same_bytes}
 use Rattle.image.specs.Layout.{contents, image_length, record_words, record_bytes}
 use Rattle.image.specs.Standing.{stands, standing, image_of}
 use Rattle.image.specs.Reading.{session_in, held_in, is_image, read_of}

@@ -1,6 +1,6 @@
 -- Laws over the crate's definitions: patterns of floats (`Patterns`), a word and its eight bytes (`Eight`, `Signs`), words put one behind the other (`Puts`);
 -- the numbers of a record fit their words (`Fitting`), what is saved of it (`Stands`), words at a place of bytes (`Said`), the bodies and the table (`Bodies`),
--- a record read back (`Back`), images (`Images`, `Figures`), and the records that the calls leave (`Left`). `Theorems` collects what is proved.
+-- a record read back (`Back`), images (`Images`, `Figures`), the records that the calls leave (`Left`), lengths (`Lengths`) and bytes of words (`WordLaws`). `Theorems` collects what is proved.
 mod Patterns
 mod Eight
 pub mod Puts
@@ -14,3 +14,5 @@ pub mod Images
 pub mod Figures
 pub mod Left
 pub mod Theorems
+pub mod Lengths
+pub mod WordLaws

@@ -5,9 +5,9 @@ use Prim.Native.Nat.{ℕ, suc, ◌+◌, ◌*◌, ◌/◌, ◌%◌, ◌<◌, ◌�
 use native.Mathlib.Omega.{arith}
 use lib.ListN.{length, drop, set, drop_of_length-le}
 use Rattle.text.specs.Places.{written, Wrote}
-use Rattle.text.specs.Pieces.{nothing, byte, then}
+use Rattle.text.proofs.Pieces.{nothing, byte, then}
 use Rattle.image.specs.Bytes.{bytes_of, in_bytes, Put}
-use Rattle.image.specs.Words.{length-in_bytes, in_bytes-append}
+use Rattle.image.proofs.WordLaws.{length-in_bytes, in_bytes-append}
 
 -- as a text that was written
 wrote : {a b words : List ℕ} {i : ℕ} (j : ℕ) → Put a i words b → j ≡ i + 8 * length words → Wrote a i (in_bytes words) b j

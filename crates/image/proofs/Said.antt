@@ -14,7 +14,7 @@ use Rattle.exact.specs.declared.Exact.{Exact}
 use Rattle.axis.specs.declared.Motion.{Motion}
 use Rattle.axis.specs.Kinds.{of_position, of_velocity}
 use Rattle.image.specs.Bytes.{from_bytes, in_bytes, word_at}
-use Rattle.image.specs.Words.{length-in_bytes, in_bytes-append, word_at-in_bytes}
+use Rattle.image.proofs.WordLaws.{length-in_bytes, in_bytes-append, word_at-in_bytes}
 use Rattle.image.specs.Layout.{signed_word, exact_words, motion_words}
 use Rattle.image.specs.Reading.{signed_at, exact_at, motion_at}
 use Rattle.image.specs.Shapes.{ExactFits, MotionFits}

@@ -1,10 +1,9 @@
 -- What a test that passed or failed says: joined tests, and tests as a function of early returns makes them.
 -- `let (p, (q, r)) = simp joined at h in ..` takes a chain `(a and b and c) ≡ true` apart, and `simp joined (p, (q, r))` proves one.
 use Rattle.std.specs.Prelude.{◌≡◌, refl, ◌↔◌, Bool, true, false, not, ◌&&◌, eqb, ℤ, pos, negsuc}
-use Rattle.std.proofs.Common.{sym, ap, ◌∙◌, true≢false, SFits, of_z, to_z, to_z-of_z, eqb-true, eq-eqb}
+use Rattle.std.proofs.Common.{sym, ◌∙◌, true≢false}
 use Rattle.std.proofs.lemmas.Bool.{false≢true, not-true, not-false}
 use Rattle.std.proofs.Math.Bool.{and-eq-true_iff}
-use Rattle.std.specs.Int.{Width}
 
 -- both tests pass: `&&`, nested to the right
 infixr 35 ◌and◌
@@ -45,22 +44,6 @@ eqℤ (pos a) (pos b) = eqb a b
 eqℤ (pos a) (negsuc b) = false
 eqℤ (negsuc a) (pos b) = false
 eqℤ (negsuc a) (negsuc b) = eqb a b
-
-pub eqℤ-true : (a b : ℤ) → eqℤ a b ≡ true → a ≡ b
-eqℤ-true (pos a) (pos b) e = ap pos (eqb-true a b e)
-eqℤ-true (pos a) (negsuc b) e = absurd (false≢true e)
-eqℤ-true (negsuc a) (pos b) e = absurd (false≢true e)
-eqℤ-true (negsuc a) (negsuc b) e = ap negsuc (eqb-true a b e)
-
-pub eqℤ-refl : (a : ℤ) → eqℤ a a ≡ true
-eqℤ-refl (pos n) = eq-eqb n n refl
-eqℤ-refl (negsuc n) = eq-eqb n n refl
-
-pub eqℤ-bits : (w : Width) (a b : ℤ) → SFits w a → SFits w b → eqb (of_z w a) (of_z w b) ≡ eqℤ a b
-eqℤ-bits w a b f g =
-    agree (eqb (of_z w a) (of_z w b)) (eqℤ a b)
-    (λ e. ap (eqℤ a) (sym (sym (to_z-of_z f) ∙ ap (to_z w) (eqb-true (of_z w a) (of_z w b) e) ∙ to_z-of_z g)) ∙ eqℤ-refl a)
-    (λ e. eq-eqb (of_z w a) (of_z w b) (ap (of_z w) (eqℤ-true a b e)))
 
 -- ---- a function of early returns: each call's result r is a test's value t, and `not r` was looked at
 

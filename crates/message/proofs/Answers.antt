@@ -16,7 +16,7 @@ use Rattle.message.specs.Request.{Request}
 use Rattle.message.specs.Message.{message_as, message}
 use Rattle.message.specs.Refusals.{well_formed, points_hold, rules, refusal}
 use Rattle.message.specs.Answer.{answer_by, room_by, answer_as, room_as}
-use Rattle.message.specs.Laws.{as_long, left_alone}
+use Rattle.message.proofs.Laws.{as_long, left_alone}
 
 pub gives : (r : Request) (room : ℕ) {n : ℕ} → Gives (rules r room) n → n ≡ refusal r room
 unfolding refusal

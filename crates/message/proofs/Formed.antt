@@ -12,7 +12,7 @@ use Rattle.integers.specs.Tests.{◌and◌, joined}
 use Rattle.calendar.specs.declared.Reading.TheVariants.{Time, Nothing}
 use Rattle.calendar.specs.Calendar.{most_seconds}
 use Rattle.calendar.specs.Text.{time_in}
-use Rattle.calendar.specs.Back.{time-exactly}
+use Rattle.calendar.proofs.Back.{time-exactly}
 use Rattle.message.specs.Request.{seconds_or, seconds_in}
 use Rattle.message.specs.Form.{has_between, all_between}
 use Rattle.message.specs.Refusals.{is_some, is_time, settings_hold}

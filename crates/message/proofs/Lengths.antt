@@ -14,7 +14,7 @@ use Rattle.integers.specs.Parts.{integers, nat_abs-parts}
 use Rattle.exact.specs.declared.Exact.{Exact}
 use Rattle.text.specs.Numbers.{ascii, decimal}
 use Rattle.decimal.specs.Text.{fixed_text, few_digits, position_text, velocity_text}
-use Rattle.decimal.specs.Digits.{length-fixed, few-digits, length-text}
+use Rattle.decimal.proofs.Digits.{length-fixed, few-digits, length-text}
 use Rattle.message.specs.Request.{value_at, place}
 use Rattle.message.specs.Message.{value_text, field}
 use Rattle.message.specs.Refusals.{exact_at, position_holds, velocity_holds, holds_as, value_holds}

@@ -10,7 +10,7 @@ use lib.ListN.{length, length-append}
 use borrow.Author.Tests.{eqb-true, eqb-false}
 use Rattle.integers.specs.Tests.{joined, clash, fails}
 use Rattle.text.specs.Places.{Wrote}
-use Rattle.text.specs.Pieces.{then}
+use Rattle.text.proofs.Pieces.{then}
 use Rattle.message.specs.Message.{texts}
 use Rattle.message.specs.Refusals.{all_of}
 

@@ -11,7 +11,7 @@ use lib.ListN.{length}
 use Rattle.integers.specs.Tests.{joined}
 use Rattle.integers.specs.Parts.{integers}
 use Rattle.rules.specs.Rules.{Decided, First, Exactly}
-use Rattle.rules.specs.Readings.{decides, opposite, none_left, by_itself, first-decided, first-exactly}
+use Rattle.rules.proofs.Readings.{decides, opposite, none_left, by_itself, first-decided, first-exactly}
 use Rattle.text.specs.Numbers.{decimal}
 use Rattle.decimal.specs.Units.{position_units, velocity_units}
 use Rattle.decimal.specs.Text.{digits_before, few_digits}

@@ -11,14 +11,14 @@ use lib.Dec.{leb}
 use lib.ListN.{length, length-append, get_or}
 use Rattle.integers.specs.Tests.{◌and◌, joined, clash, fails}
 use Rattle.rules.specs.Rules.{Decides}
-use Rattle.rules.specs.Readings.{decides}
+use Rattle.rules.proofs.Readings.{decides}
 use Rattle.text.specs.Numbers.{ascii}
 use Rattle.calendar.specs.declared.Reading.{Reading}
 use Rattle.calendar.specs.declared.Reading.TheVariants as R
 use Rattle.calendar.specs.Calendar.{Within, seconds_of, most_seconds}
 use Rattle.calendar.specs.Text.{time_in}
-use Rattle.calendar.specs.Back.{time-back, time-only}
-use Rattle.calendar.specs.Moments.{last-moment}
+use Rattle.calendar.proofs.Back.{time-back, time-only}
+use Rattle.calendar.proofs.Moments.{last-moment}
 use Rattle.message.specs.Request.{Request, count_of, seconds_in, seconds_at}
 use Rattle.message.specs.Form.{has_between, all_between, one_case, name_holds, fits}
 use Rattle.message.specs.Refusals.{is_some, is_time, names_hold, settings_hold, ends_in_time, well_formed}

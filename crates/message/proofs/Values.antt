@@ -13,14 +13,14 @@ use Rattle.integers.specs.Parts.{integers, nat_abs-parts, one-part}
 use Rattle.integers.specs.Tests.{◌and◌, joined, fails, passes, and_no, and_yes}
 use Rattle.exact.specs.declared.Exact.{Exact}
 use Rattle.exact.specs.Numerator.{D, between, Bounded}
-use Rattle.exact.specs.Bounds.{between-bounded}
+use Rattle.exact.proofs.Bounds.{between-bounded}
 use Rattle.text.specs.Numbers.{ascii}
-use Rattle.text.specs.Pieces.{length-flatten}
+use Rattle.text.proofs.Pieces.{length-flatten}
 use Rattle.calendar.specs.Calendar.{moment_of}
-use Rattle.calendar.specs.Back.{text-long}
+use Rattle.calendar.proofs.Back.{text-long}
 use Rattle.decimal.specs.Units.{position_units, velocity_units}
 use Rattle.decimal.specs.Text.{fixed_text, position_text, velocity_text, position_fits, velocity_fits}
-use Rattle.decimal.specs.Digits.{length-fixed}
+use Rattle.decimal.proofs.Digits.{length-fixed}
 use Rattle.message.specs.Request.{value_at, place}
 use Rattle.message.specs.Message.{value_text, field, texts, line, line_from}
 use Rattle.message.specs.Refusals.{exact_at, position_holds, velocity_holds, holds_as, value_holds, point_holds}

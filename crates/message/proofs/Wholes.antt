@@ -11,12 +11,12 @@ use lib.ListN.{length, length-append}
 use borrow.Author.Tests.{leb-true, ne_eqb, eq-eqb}
 use Rattle.integers.specs.Tests.{◌and◌, joined, fails, clash}
 use Rattle.text.specs.Numbers.{ascii}
-use Rattle.text.specs.Pieces.{length-flatten}
+use Rattle.text.proofs.Pieces.{length-flatten}
 use Rattle.calendar.specs.declared.Reading.{Reading}
 use Rattle.calendar.specs.declared.Reading.TheVariants.{Time, Nothing}
 use Rattle.calendar.specs.Calendar.{most_seconds, moment_of}
 use Rattle.calendar.specs.Text.{time_in, time_text}
-use Rattle.calendar.specs.Back.{time-exactly, text-long}
+use Rattle.calendar.proofs.Back.{time-exactly, text-long}
 use Rattle.message.specs.declared.Edition.{Edition}
 use Rattle.message.specs.declared.Edition.TheVariants.{Two}
 use Rattle.message.specs.Editions.{version_of}

@@ -13,7 +13,7 @@ use Rattle.text.specs.Numbers.{ascii, decimal, digits, last_digits}
 use Rattle.calendar.specs.declared.Moment.{Moment}
 use Rattle.calendar.specs.Calendar.{leap, lengths, days_of_month, sum_to, days_of_year, days_before_year, days_before_month, is_real, days_of, seconds_of}
 use Rattle.calendar.specs.Text.{time_text, value_at as number_at, moment_in, same_text, time_in}
-use Rattle.calendar.specs.Moments.{tested_real, moment-again}
+use Rattle.calendar.proofs.Moments.{tested_real, moment-again}
 use Rattle.decimal.specs.Units.{position_units, velocity_units}
 use Rattle.decimal.specs.Text.{fixed, fixed_text, digits_before, few_digits}
 use Rattle.message.specs.declared.Edition.{Edition}

@@ -1,5 +1,5 @@
 -- What the contracts of `message_request` cite: a line of a text (`Lines`), the points (`Points`), and the whole request (`Requests`).
--- Beside them that its names, and the value of an edition, are parts of the text (`Within`).
+-- Beside them what it is that its names are parts of the text (`Within`).
 pub mod Lines
 pub mod Points
 pub mod Requests

@@ -8,9 +8,9 @@ use native.Mathlib.Omega.{arith}
 use lib.ListN.{length, take, drop, length-append}
 use lib.Seq.{take_at, take-append-le}
 use Rattle.text.specs.Numbers.{decimal}
-use Rattle.text.specs.Digits.{length-decimal}
+use Rattle.text.proofs.Digits.{length-decimal}
 use Rattle.text.specs.Places.{Wrote, written}
-use Rattle.text.specs.Pieces.{up-to-end}
+use Rattle.text.proofs.Pieces.{up-to-end}
 use Rattle.message.specs.declared.Written.{Written}
 use Rattle.message.specs.declared.Edition.{Edition}
 use Rattle.message.specs.Request.{Request}

@@ -15,7 +15,8 @@ use Rattle.message_request.specs.declared.Asked.{Asked}
 use Rattle.message_request.specs.declared.Outcome.{Outcome}
 use Rattle.message_request.specs.declared.Outcome.TheVariants.{Request, NoRequest, Full}
 use Rattle.message_request.specs.Requests.{version_line, kept_in, asked_in, numbers_after}
-use Rattle.message_request.specs.Within.{Within, AllWithin, version-within, names-within}
+use Rattle.message_request.specs.Within.{Within, AllWithin}
+use Rattle.message_request.proofs.Within.{version-within, names-within}
 use Rattle.oem.specs.Answers.{Says, line_with, refused_by, is_neither, edition_of, request_of, room_for, message_or, answer_by, answer_from, answer_for}
 
 module _ (text : List ℕ) (p : Place) (before : List ℤ) {asked : Asked} {after : List ℤ}

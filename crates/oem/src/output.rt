@@ -20,8 +20,13 @@ fn without_number(said: &str) -> &str {
 
 // A line on standard error: what failed, a colon, and what the system says of it, without the number that std writes after that.
 pub(crate) fn fail(rt: &HostRuntime, what: &str, error: Error) {
-    if let Ok(said) = format!(in rt.alloc(); "{error}") {
-        let told = without_number(said.as_str());
-        let _taken = eprintln!(rt; "{what}: {told}").is_ok();
+    match format!(in rt.alloc(); "{error}") {
+        Ok(said) => {
+            let told = without_number(said.as_str());
+            let _taken = eprintln!(rt; "{what}: {told}").is_ok();
+        }
+        Err(_) => {
+            let _taken = eprintln!(rt; "{what}: {error}").is_ok();
+        }
     }
 }

@@ -1,7 +1,7 @@
 -- The change that an explanation names is exact: its part is below D.
 use Rattle.std.proofs.Common.{ℕ, suc, ◌<◌, Bool, true, false, cond, eqb, List, [], ◌∷◌, arith}
 use Rattle.exact.specs.Numerator.{D}
-use Rattle.exact.specs.Laws.{part-below}
+use Rattle.exact.proofs.Laws.{part-below}
 use Rattle.ticks.specs.declared.Sample.{Sample}
 use Rattle.ticks.specs.Samples.{axes_of, whole_of}
 use Rattle.session.specs.declared.Session.{Session}
@@ -10,7 +10,7 @@ use Rattle.session.specs.Moves.{corrected_point, estimate_of}
 use Rattle.session.specs.Values.{Value, six, change_at}
 use Rattle.steps.specs.Refusals.{correct_refusal}
 use Rattle.reasons.specs.declared.Reason.{Reason}
-use Rattle.reasons.specs.Reasons.{placed, named, moved, first_from, first, is_no_number, is_infinity, is_over_limit, is_out, is_over, beside}
+use Rattle.reasons.specs.Reasons.{placed, named, moved, first_from, is_no_number, is_infinity, is_over_limit, is_out, is_over, beside}
 use Rattle.reasons.specs.Explanations.{explained_by, explain_of}
 
 record ChangesExactly (r : Reason) : Type 0 where

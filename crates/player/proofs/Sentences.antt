@@ -8,7 +8,7 @@ use Rattle.reasons.specs.declared.Reason.{Reason}
 use Rattle.reasons.specs.declared.Explanation.{Explanation}
 use Rattle.text.specs.Numbers.{ascii}
 use Rattle.text.specs.Places.{total}
-use Rattle.text.specs.Pieces.{length-flatten}
+use Rattle.text.proofs.Pieces.{length-flatten}
 use Rattle.sentences.proofs.Digits.{shortened-short}
 use Rattle.script.proofs.Lengths.{decimal-short}
 use Rattle.sentences.specs.Decimals.{size_of, ten_decimals, shortened, sign_text, rest_text, change_text}

@@ -2,7 +2,7 @@
 use Rattle.std.proofs.Common.{ℕ, ◌+◌, ◌≤◌, List, length, arith}
 use mathlib.Core.List.{flatten}
 use Rattle.text.specs.Places.{Wrote, Room, total}
-use Rattle.text.specs.Pieces.{length-flatten}
+use Rattle.text.proofs.Pieces.{length-flatten}
 
 module _ (pieces : List (List ℕ)) {most : ℕ} (h : total pieces ≤ most) where
   pub room : {b : List ℕ} {i : ℕ} → i + most ≤ length b → Room b i pieces

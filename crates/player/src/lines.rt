@@ -187,13 +187,7 @@ fn answer_lines(
 }
 
 // The bytes after the last newline are no call where the input is over or they are too many.
-fn finish(
-    rt: &HostRuntime,
-    out: &mut [u8],
-    p: Progress,
-    got: usize,
-    end: usize,
-) -> Progress
+fn finish(rt: &HostRuntime, out: &mut [u8], p: Progress, got: usize, end: usize) -> Progress
     requires used_le_end { p.used ≤ end }
     requires written_in_bounds { p.written ≤ length out.old }
     requires in_bounds { 8192 ≤ length out.old }

@@ -43,13 +43,7 @@ struct Place {
 }
 
 // Reads a piece, answers its lines, and writes the answers.
-fn turn(
-    rt: &HostRuntime,
-    voice: Voice,
-    input: &mut [u8],
-    out: &mut [u8],
-    place: Place,
-) -> Place
+fn turn(rt: &HostRuntime, voice: Voice, input: &mut [u8], out: &mut [u8], place: Place) -> Place
     requires held_in_bounds { place.held ≤ length input.old }
     requires in_bounds { 8192 ≤ length out.old }
     ensures { result.held ≤ length input.old }

@@ -6,7 +6,7 @@ use Prim.Native.Nat.{ℕ}
 use Prim.Native.String.{String}
 use native.Mathlib.Omega.{arith}
 use lib.ListN.{length, length-append, length-map}
-use Rattle.calendar.specs.Back.{same_refl}
+use Rattle.calendar.proofs.Back.{same_refl}
 use Rattle.message.specs.Message.{says, time_after}
 use Rattle.message.specs.declared.Edition.{Edition}
 use Rattle.received.specs.Lines.{lines_in}

@@ -14,9 +14,10 @@ use Rattle.text.specs.Numbers.{ascii, digit, last_digits}
 use Rattle.calendar.specs.declared.Moment.{Moment}
 use Rattle.calendar.specs.Calendar.{moment_of}
 use Rattle.calendar.specs.Text.{time_text}
-use Rattle.calendar.specs.Back.{text-long}
+use Rattle.calendar.proofs.Back.{text-long}
 use Rattle.decimal.specs.Text.{fixed_text}
-use Rattle.decimal.specs.Form.{Digits, Form, form}
+use Rattle.decimal.proofs.Form.{Digits, Form}
+use Rattle.decimal.proofs.Form.{form}
 use Rattle.message.specs.Message.{says, time_after, texts}
 use Rattle.message.specs.Form.{all_between, name_holds}
 use Rattle.message.specs.Request.{seconds_in}

@@ -19,9 +19,9 @@ use Rattle.text.specs.declared.Signed.{Signed}
 use Rattle.text.specs.declared.Signed.TheVariants as S
 use Rattle.text.specs.Places.{Stands}
 use Rattle.decimal.specs.Text.{fixed_text, few_digits}
-use Rattle.decimal.specs.Digits.{few-digits}
+use Rattle.decimal.proofs.Digits.{few-digits}
 use Rattle.decimal.specs.Reading.{fixed_at}
-use Rattle.decimal.specs.Back.{fixed-only, fixed_back}
+use Rattle.decimal.proofs.Back.{fixed-only, fixed_back}
 use Rattle.message.specs.Message.{texts}
 use Rattle.received.specs.declared.data.Field.{Field}
 use Rattle.received.specs.Data.{decimals_of, no_field, field_by, field_at, field_start, value_in}

@@ -7,7 +7,7 @@ use native.Mathlib.Omega.{arith}
 use lib.ListN.{length, take, length-append}
 use lib.Seq.{take-append_seam, drop-append_seam}
 use Rattle.integers.specs.Tests.{joined}
-use Rattle.calendar.specs.Back.{same_true, same_refl}
+use Rattle.calendar.proofs.Back.{same_true, same_refl}
 use Rattle.received.specs.Lines.{newline}
 use Rattle.received.specs.Messages.{Every}
 use Rattle.received.specs.Slots.{Form, line_with, rest_in, has_front, is_of, Slot, one, perhaps, any, AllOf, Fills, FillAll}

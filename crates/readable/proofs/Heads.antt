@@ -6,7 +6,7 @@ use Prim.Native.Nat.{ℕ}
 use Prim.Native.String.{String}
 use Rattle.text.specs.Numbers.{ascii}
 use Rattle.calendar.specs.Text.{same_text}
-use Rattle.calendar.specs.Back.{same_true, same_refl}
+use Rattle.calendar.proofs.Back.{same_true, same_refl}
 use Rattle.message.specs.declared.Edition.{Edition}
 use Rattle.message.specs.Editions.{version_of}
 use Rattle.message.specs.Message.{entry, says}

@@ -9,7 +9,7 @@ use native.Mathlib.Omega.{arith}
 use lib.ListN.{length, take, drop, length-append}
 use Rattle.integers.specs.Tests.{clash, fails}
 use Rattle.calendar.specs.Text.{same_text}
-use Rattle.calendar.specs.Back.{same_true, same_refl}
+use Rattle.calendar.proofs.Back.{same_true, same_refl}
 use Rattle.message.specs.Message.{says, time_after}
 use Rattle.text.specs.Numbers.{ascii}
 use Rattle.message.specs.declared.Edition.{Edition}

@@ -10,7 +10,7 @@ use lib.Seq.{take-append_seam, drop-append_seam}
 use borrow.Author.Tests.{eqb-true, eqb-false, eq-eqb, ne_eqb}
 use Rattle.integers.specs.Tests.{joined, clash, fails}
 use Rattle.calendar.specs.Text.{same_text}
-use Rattle.calendar.specs.Back.{same_true, same_refl}
+use Rattle.calendar.proofs.Back.{same_true, same_refl}
 use Rattle.message.specs.declared.Edition.{Edition}
 use Rattle.message.specs.Editions.{version_of}
 use Rattle.received.specs.Versions.{version_front, up_to_newline, has_version, named_in, is_other}

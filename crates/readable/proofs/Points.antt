@@ -16,7 +16,7 @@ use Rattle.calendar.specs.declared.Reading.{Reading}
 use Rattle.calendar.specs.declared.Reading.TheVariants.{Time, Nothing}
 use Rattle.calendar.specs.Calendar.{moment_of, most_seconds}
 use Rattle.calendar.specs.Text.{same_text, time_in}
-use Rattle.calendar.specs.Back.{same_true, same_refl, text-long, time-exactly}
+use Rattle.calendar.proofs.Back.{same_true, same_refl, text-long, time-exactly}
 use Rattle.message.specs.Request.{seconds_or, seconds_in}
 use Rattle.message.specs.Message.{time_after, texts}
 use Rattle.message.specs.Refusals.{is_some, is_time}

@@ -8,7 +8,7 @@ use native.Mathlib.Omega.{arith}
 use lib.ListN.{length, take, drop, get_or}
 use lib.Seq.{get_or_at}
 use Rattle.calendar.specs.Text.{same_text}
-use Rattle.calendar.specs.Back.{same_true, same_refl}
+use Rattle.calendar.proofs.Back.{same_true, same_refl}
 use Rattle.integers.specs.Tests.{fails, clash}
 use Rattle.message.specs.Message.{says, time_after}
 use Rattle.message.specs.declared.Edition.{Edition}

@@ -12,14 +12,14 @@ use lib.Signed.{le_z, lt_z}
 use borrow.Author.Tests.{leb-true, eqb-true, eqb-false, not-false, lt-ltb, le-ltb, ltb-true}
 use Rattle.integers.specs.Parts.{integers, nat_abs-parts, one-part}
 use Rattle.integers.specs.Tests.{joined}
-use Rattle.rules.specs.Tests.{clear}
+use Rattle.rules.proofs.Tests.{clear}
 use Rattle.exact.specs.declared.Exact.{Exact}
 use Rattle.exact.specs.Numerator.{D, between}
-use Rattle.exact.specs.Bounds.{between-bounded}
+use Rattle.exact.proofs.Bounds.{between-bounded}
 use Rattle.text.specs.Numbers.{ascii}
 use Rattle.calendar.specs.Calendar.{most_seconds}
 use Rattle.decimal.specs.Text.{position_fits, velocity_fits}
-use Rattle.decimal.specs.Digits.{few-digits}
+use Rattle.decimal.proofs.Digits.{few-digits}
 use Rattle.message.specs.Request.{Request, count_of, place, value_at, seconds_in, seconds_at}
 use Rattle.message.specs.Message.{says, time_after, texts, value_text, field, line, line_from, message_as}
 use Rattle.message.specs.Refusals.{is_time, names_hold, settings_hold, ends_in_time, well_formed, all_of, exact_at, position_holds, velocity_holds, holds_as, value_holds, point_holds, points_hold, rules, refusal}

@@ -6,10 +6,11 @@ use native.Mathlib.Omega.{arith}
 use lib.IntN.{ℤ, pos, nat_abs, ◌-ℤ◌, ◌*ℤ◌}
 use Rattle.integers.specs.Parts.{nat_abs-parts, one-part, difference-parts}
 use Rattle.integers.specs.Size.{nat_abs-*ℤ}
-use Rattle.integers.specs.Nearest.{nearest_of, nearest-of}
+use Rattle.integers.specs.Nearest.{nearest_of}
+use Rattle.integers.proofs.Nearest.{nearest-of}
 use Rattle.exact.specs.declared.Exact.{Exact}
 use Rattle.exact.specs.Numerator.{D, numerator, Bounded}
-use Rattle.exact.specs.Bounds.{numerator-within}
+use Rattle.exact.proofs.Bounds.{numerator-within}
 use Rattle.decimal.specs.Units.{position_units, velocity_units}
 
 -- how far x is from 0, by how far a is and how far they are apart

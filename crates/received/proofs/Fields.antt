@@ -14,7 +14,7 @@ use Rattle.integers.specs.Tests.{◌and◌, fails}
 use Rattle.text.specs.Numbers.{ascii}
 use Rattle.text.specs.declared.Signed.TheVariants.{Number}
 use Rattle.calendar.specs.Text.{same_text}
-use Rattle.calendar.specs.Back.{same_true}
+use Rattle.calendar.proofs.Back.{same_true}
 use Rattle.decimal.specs.Text.{few_digits, position_fits, velocity_fits}
 use Rattle.decimal.specs.Reading.{fixed_at}
 use Rattle.received.specs.Data.{decimals_of, no_field, field_by, field_at, field_start, value_in, first_ones}

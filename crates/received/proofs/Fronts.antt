@@ -10,7 +10,7 @@ use lib.Seq.{take-append_seam, drop-append_seam, get_or-append-add, get_or-appen
 use borrow.Author.Tests.{eqb-true, eq-eqb, ne_eqb}
 use Rattle.integers.specs.Tests.{joined, clash, fails, agree, and_no, and_yes}
 use Rattle.calendar.specs.Text.{same_text}
-use Rattle.calendar.specs.Back.{same_true, same_refl}
+use Rattle.calendar.proofs.Back.{same_true, same_refl}
 use Rattle.message.specs.Form.{all_between}
 use Rattle.received.specs.Slots.{Form, line_with, rest_in, has_front, is_of}
 use Rattle.received.specs.Profile.{printable, is_remark}

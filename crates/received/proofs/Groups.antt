@@ -8,7 +8,7 @@ use native.Mathlib.Omega.{arith}
 use lib.ListN.{length, drop, get_or, drop_of_length-le}
 use lib.Seq.{drop-cons}
 use Rattle.text.specs.Numbers.{ascii}
-use Rattle.calendar.specs.Back.{same_true}
+use Rattle.calendar.proofs.Back.{same_true}
 use Rattle.message.specs.declared.Edition.{Edition}
 use Rattle.message.specs.Editions.{version_of}
 use Rattle.message.specs.Message.{entry, says}

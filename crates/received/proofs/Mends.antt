@@ -11,9 +11,9 @@ use borrow.Author.Tests.{leb-true}
 use Rattle.integers.specs.Tests.{◌and◌, joined}
 use Rattle.text.specs.Numbers.{ascii}
 use Rattle.text.specs.Places.{written, Wrote}
-use Rattle.text.specs.Pieces.{length-flatten}
+use Rattle.text.proofs.Pieces.{length-flatten}
 use Rattle.calendar.specs.Calendar.{moment_of}
-use Rattle.calendar.specs.Back.{text-long}
+use Rattle.calendar.proofs.Back.{text-long}
 use Rattle.message.specs.declared.Edition.{Edition}
 use Rattle.message.specs.Message.{entry, says, time_after}
 use Rattle.received.specs.declared.Mended.{Mended}

@@ -13,7 +13,7 @@ use borrow.Author.Tests.{eq-eqb, ne_eqb}
 use Rattle.integers.specs.Tests.{fails, and_no, and_yes}
 use Rattle.text.specs.Numbers.{ascii}
 use Rattle.calendar.specs.Text.{same_text}
-use Rattle.calendar.specs.Back.{same_true}
+use Rattle.calendar.proofs.Back.{same_true}
 use Rattle.message.specs.declared.Edition.{Edition}
 use Rattle.message.specs.Editions.{version_of}
 use Rattle.received.specs.Versions.{version_front, up_to_newline, has_version, named_in, is_other}

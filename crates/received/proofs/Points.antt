@@ -24,11 +24,11 @@ use Rattle.calendar.specs.declared.Reading.TheVariants.{Time}
 use Rattle.calendar.specs.declared.Reading.TheVariants as R
 use Rattle.calendar.specs.Calendar.{most_seconds, moment_of}
 use Rattle.calendar.specs.Text.{time_in}
-use Rattle.calendar.specs.Back.{same_true, text-long, time-exactly}
+use Rattle.calendar.proofs.Back.{same_true, text-long, time-exactly}
 use Rattle.decimal.specs.Text.{fixed_text, few_digits}
-use Rattle.decimal.specs.Digits.{few-digits}
+use Rattle.decimal.proofs.Digits.{few-digits}
 use Rattle.decimal.specs.Reading.{fixed_at}
-use Rattle.decimal.specs.Back.{fixed-only}
+use Rattle.decimal.proofs.Back.{fixed-only}
 use Rattle.message.specs.Request.{seconds_or}
 use Rattle.message.specs.Message.{time_after, texts}
 use Rattle.message.specs.Refusals.{is_some}

@@ -8,7 +8,7 @@ use lib.ListN.{length}
 use borrow.Author.Tests.{ltb-true, leb-true, eqb-true}
 use Rattle.integers.specs.Tests.{joined}
 use Rattle.calendar.specs.Text.{same_text}
-use Rattle.calendar.specs.Back.{same_true}
+use Rattle.calendar.proofs.Back.{same_true}
 use Rattle.message.specs.declared.Edition.{Edition}
 use Rattle.message.specs.Message.{time_after}
 use Rattle.received.specs.Lines.{lines_in}

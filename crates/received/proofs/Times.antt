@@ -13,7 +13,7 @@ use Rattle.calendar.specs.declared.Reading.TheVariants.{Time, Nothing}
 use Rattle.calendar.specs.declared.Reading.TheVariants as R
 use Rattle.calendar.specs.Calendar.{most_seconds}
 use Rattle.calendar.specs.Text.{same_text, time_in}
-use Rattle.calendar.specs.Back.{same_true, time-exactly}
+use Rattle.calendar.proofs.Back.{same_true, time-exactly}
 use Rattle.message.specs.Request.{seconds_or}
 use Rattle.message.specs.Message.{time_after}
 use Rattle.message.specs.Refusals.{is_some}

@@ -5,7 +5,7 @@ use Prim.Native.Nat.{ℕ, ◌+◌, ◌≤◌}
 use native.Mathlib.Omega.{arith}
 use lib.ListN.{length, set, length-append, length-set}
 use Rattle.text.specs.Places.{Wrote}
-use Rattle.text.specs.Pieces.{nothing, byte, then, retold}
+use Rattle.text.proofs.Pieces.{nothing, byte, then, retold}
 
 -- `whole` is to be written into a room at `start`; `left` is what is not yet written
 pub record Putting (whole room : List ℕ) (start : ℕ) (left now : List ℕ) (end : ℕ) : Type 0 where

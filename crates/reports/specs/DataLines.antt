@@ -13,11 +13,11 @@ use Rattle.text.specs.declared.Signed.TheVariants.{Number, Nothing}
 use Rattle.calendar.specs.declared.Reading.{Reading}
 use Rattle.calendar.specs.declared.Reading.TheVariants as R
 use Rattle.calendar.specs.Text.{time_in}
-use Rattle.calendar.specs.Back.{same_true, text-long, time-only}
+use Rattle.calendar.proofs.Back.{same_true, text-long, time-only}
 use Rattle.decimal.specs.Text.{fixed, fixed_text, few_digits}
 use Rattle.decimal.specs.Reading.{fixed_at}
-use Rattle.decimal.specs.Digits.{length-last_digits}
-use Rattle.decimal.specs.Back.{fixed-only}
+use Rattle.decimal.proofs.Digits.{length-last_digits}
+use Rattle.decimal.proofs.Back.{fixed-only}
 use Rattle.message.specs.Refusals.{is_some, is_time}
 use Rattle.received.specs.declared.data.Field.{Field}
 use Rattle.received.specs.Data.{Point, decimals_of, no_field, field_by, field_at, field_start, datum_in, point_in, accepts, points_in}

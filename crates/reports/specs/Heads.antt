@@ -7,7 +7,7 @@ use native.Mathlib.Omega.{arith}
 use Rattle.std.proofs.Math.ListN.{length, take, get_or, length-append}
 use Rattle.std.proofs.Math.Seq.{drop-append-add, drop-append_seam, take-append_seam}
 use Rattle.integers.specs.Tests.{joined}
-use Rattle.calendar.specs.Back.{same_true}
+use Rattle.calendar.proofs.Back.{same_true}
 use Rattle.message.specs.declared.Edition.{Edition}
 use Rattle.received.specs.Lines.{newline, in_front, lines_in}
 use Rattle.received.specs.Slots.{Form, Slot, one, perhaps, any, line_with, rest_in, has_front, is_of, AllOf, Fills, FillAll}

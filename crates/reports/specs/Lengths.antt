@@ -5,7 +5,7 @@ use mathlib.Core.List.{List, [], ◌∷◌, ◌++◌, flatten}
 use native.Mathlib.Omega.{arith}
 use Rattle.std.proofs.Math.ListN.{length, length-append}
 use Rattle.text.specs.Numbers.{ascii, digit, digits, decimal, signed, numbers}
-use Rattle.text.specs.Pieces.{length-flatten}
+use Rattle.text.proofs.Pieces.{length-flatten}
 use Rattle.received.specs.declared.Place.{Place}
 use Rattle.received.specs.declared.Received.{Received}
 use Rattle.received.specs.Mending.{Change}

@@ -1,5 +1,3 @@
--- Ordered rules: their two forms and what ties them (`Rules`), what is known where tests were made in order (`Tests`), and the laws between
--- the readings of a list of statements (`Readings`).
+-- Ordered rules: their two forms and what ties them (`Rules`), and what a number says of tests that were made in order (`Tests`).
 pub mod Rules
 pub mod Tests
-pub mod Readings

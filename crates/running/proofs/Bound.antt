@@ -17,7 +17,7 @@ use Rattle.session.specs.Holding.{holds, is_awaiting, settled}
 use Rattle.session.proofs.Rules.{holding, counts-are, settled-holds, resting, expecting}
 use Rattle.steps.specs.Refusals.{predict_refusal, agrees, correct_refusal}
 use Rattle.steps.specs.Steps.{predict_by, predict_of, judged, correct_by, correct_of}
-use Rattle.rules.specs.Tests.{clear}
+use Rattle.rules.proofs.Tests.{clear}
 use Rattle.running.specs.declared.RunAnswer.{RunAnswer}
 use Rattle.running.specs.declared.AfterRun.{AfterRun}
 use Rattle.running.specs.Samples.{samples_in}

@@ -21,11 +21,11 @@ use Rattle.reasons.specs.declared.Reason.{Reason}
 use Rattle.reasons.specs.declared.Differences.{Differences}
 use Rattle.reasons.specs.declared.Explanation.{Explanation}
 use Rattle.image.specs.Standing.{standing, image_of}
-use Rattle.image.specs.Lengths.{length-record_bytes}
+use Rattle.image.proofs.Lengths.{length-record_bytes}
 use Rattle.text.specs.Numbers.{ascii, digit, digits, decimal, signed, numbers, hex}
-use Rattle.text.specs.Digits.{length-hex_digits}
+use Rattle.text.proofs.Digits.{length-hex_digits}
 use Rattle.text.specs.Places.{total}
-use Rattle.text.specs.Pieces.{length-flatten}
+use Rattle.text.proofs.Pieces.{length-flatten}
 use Rattle.script.specs.Lines.{natural, two, integer, exactly, value, motion_values, point_values, answer_values, answer_line}
 use Rattle.script.specs.Lines.{round_values, point_text, nine_points, round_line}
 use Rattle.script.specs.Lines.{reason_words, flag_of, difference_words, why_line}

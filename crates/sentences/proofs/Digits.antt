@@ -8,7 +8,7 @@ use lib.Dec.{eqb}
 use borrow.Author.Tests.{eq-eqb, ne_eqb}
 use lib.ListN.{length}
 use Rattle.text.specs.Numbers.{last_digits}
-use Rattle.decimal.specs.Digits.{length-last_digits}
+use Rattle.decimal.proofs.Digits.{length-last_digits}
 use Rattle.sentences.specs.Decimals.{shortened}
 
 -- none are left

@@ -6,7 +6,7 @@ use borrow.Author.Tests.{ne_eqb}
 use Rattle.session.specs.declared.Session.{Session}
 use Rattle.reasons.specs.declared.Reason.{Reason}
 use Rattle.text.specs.Places.{Wrote}
-use Rattle.text.specs.Pieces.{retold}
+use Rattle.text.proofs.Pieces.{retold}
 use Rattle.sentences.specs.Sentences.{over_tolerance, said}
 use Rattle.sentences.proofs.NoWord.{NoneOf}
 

@@ -6,10 +6,10 @@ use native.Mathlib.Omega.{arith}
 use lib.IntN.{pos, nat_abs, ◌-ℤ◌, ◌*ℤ◌}
 use lib.Signed.{lt_z}
 use Rattle.integers.specs.Parts.{nat_abs-parts, one-part, difference-parts, multiple-parts, lt_z-true-parts, lt_z-false-parts}
-use Rattle.integers.specs.Nearest.{nearest-means}
+use Rattle.integers.proofs.Nearest.{nearest-means}
 use Rattle.exact.specs.declared.Exact.{Exact}
 use Rattle.exact.specs.Numerator.{D, numerator}
-use Rattle.exact.specs.Laws.{numerator-parts}
+use Rattle.exact.proofs.Laws.{numerator-parts}
 use Rattle.sentences.specs.declared.decimals.Size.{Size}
 use Rattle.sentences.specs.Decimals.{size_of, ten_decimals}
 

@@ -8,7 +8,7 @@ use native.Mathlib.Omega.{arith}
 use borrow.Author.Tests.{leb-true, leb-false, le-leb}
 use Rattle.integers.specs.Tests.{◌and◌, agree, joined, clash}
 use Rattle.exact.specs.Numerator.{D}
-use Rattle.exact.specs.Laws.{same_refl}
+use Rattle.exact.proofs.Laws.{same_refl}
 use Rattle.axis.specs.declared.Tolerances.{Tolerances}
 use Rattle.axis.specs.Kinds.{Kind, of_position, of_velocity, both_kinds, tolerance_of}
 use Rattle.axis.specs.Estimates.{same_motion, in_range}

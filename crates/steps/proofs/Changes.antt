@@ -8,7 +8,7 @@ use Rattle.integers.specs.Parts.{integers}
 use Rattle.exact.specs.declared.Reported.{Reported}
 use Rattle.exact.specs.Numerator.{D, exact_of, numerator}
 use Rattle.exact.specs.Report.{reported_of}
-use Rattle.exact.specs.Laws.{numerator-exact_of}
+use Rattle.exact.proofs.Laws.{numerator-exact_of}
 use Rattle.ticks.specs.declared.Sample.{Sample}
 use Rattle.ticks.specs.Samples.{whole_of}
 use Rattle.axis.specs.Formulas.{motion_of}

@@ -10,10 +10,10 @@ use Rattle.integers.specs.Parts.{integers}
 use Rattle.exact.specs.declared.Exact.{Exact}
 use Rattle.exact.specs.Numerator.{D, exact_of, numerator, Bounded}
 use Rattle.exact.specs.Report.{reported_of}
-use Rattle.exact.specs.Laws.{part-below}
-use Rattle.exact.specs.Bounds.{widen}
-use Rattle.exact.specs.Casts.{whole_back, part-back, position-reports}
-use Rattle.exact.specs.Ordinary.{report-ordinary, report-positive}
+use Rattle.exact.proofs.Laws.{part-below}
+use Rattle.exact.proofs.Bounds.{widen}
+use Rattle.exact.proofs.Casts.{whole_back, part-back, position-reports}
+use Rattle.exact.proofs.Ordinary.{report-ordinary, report-positive}
 use Rattle.ticks.specs.declared.Sample.{Sample}
 use Rattle.ticks.specs.Samples.{whole_of}
 use Rattle.axis.specs.declared.Motion.{Motion}

@@ -7,7 +7,7 @@ use Rattle.integers.specs.Differences.{by_differences}
 use Rattle.exact.specs.Numerator.{exact_of, numerator, same_exact}
 use Rattle.coefficients.specs.Fraction.{times}
 use Rattle.coefficients.specs.Rules.{c, g, l, s, total, terms, next, divided}
-use Rattle.coefficients.specs.Scaled.{run}
+use Rattle.coefficients.specs.Scaled.{run, whole_run}
 use Rattle.coefficients.specs.Formulas.{position_predictor, position_corrector, velocity_predictor, velocity_corrector, unsummed_cowell, older_part}
 use Rattle.ticks.specs.Round.{rounded_of}
 use Rattle.ticks.specs.Samples.{any}
@@ -27,5 +27,5 @@ use Rattle.steps.specs.Steps.{open_of, predict_of, correct_of}
 use Rattle.steps.specs.Figures.{figures}
 
 pub as-printed : All figures
-unfolding add div of_int first_of by_differences exact_of numerator same_exact times c g l s total terms next divided run position_predictor position_corrector velocity_predictor velocity_corrector older_part unsummed_cowell rounded_of any motion_of still older_motion present_motion predicted_motion corrected_motion kept_samples advanced_axis opened_axis empty_axis same_motion in_range change_of sizes agrees_on remainders_hold samples_small empty_zero older_holds points_hold settings_hold nowhere present_point estimate_of predicted_point corrected_point point_in_range points_agree point_change settled_again awaiting_at accepted_at opened_session closed_session counts_hold same_point settled_holds estimate_begins awaiting_holds holds settled awaiting reported_motion reported_point reported_change no_point no_change exact_point axis_samples opened_with open_refusal full predict_refusal agrees largest_change is_last correct_refusal open_of predict_of correct_of
+unfolding add div of_int first_of by_differences exact_of numerator same_exact times c g l s total terms next divided run whole_run position_predictor position_corrector velocity_predictor velocity_corrector older_part unsummed_cowell rounded_of any motion_of still older_motion present_motion predicted_motion corrected_motion kept_samples advanced_axis opened_axis empty_axis same_motion in_range change_of sizes agrees_on remainders_hold samples_small empty_zero older_holds points_hold settings_hold nowhere present_point estimate_of predicted_point corrected_point point_in_range points_agree point_change settled_again awaiting_at accepted_at opened_session closed_session counts_hold same_point settled_holds estimate_begins awaiting_holds holds settled awaiting reported_motion reported_point reported_change no_point no_change exact_point axis_samples opened_with open_refusal full predict_refusal agrees largest_change is_last correct_refusal open_of predict_of correct_of
 as-printed = (refl, (refl, (refl, (refl, (refl, (refl, (refl, (refl, (refl, (refl, (refl, (refl, (refl, (refl, (refl, (refl, (refl, (refl, (refl, (refl, (refl, (refl, (refl, (refl, (refl, (refl, (refl, (refl, (refl, (refl, (refl, (refl, tt))))))))))))))))))))))))))))))))

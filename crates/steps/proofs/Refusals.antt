@@ -4,7 +4,7 @@ use mathlib.Core.Bool.{true, false, not}
 use native.Mathlib.Omega.{arith}
 use borrow.Author.Tests.{not-false}
 use Rattle.integers.specs.Tests.{◌and◌}
-use Rattle.rules.specs.Tests.{not_first, clear}
+use Rattle.rules.proofs.Tests.{not_first, clear}
 use Rattle.ticks.specs.declared.Sample.{Sample}
 use Rattle.ticks.specs.Samples.{whole_of}
 use Rattle.session.specs.declared.Session.{Session}

@@ -6,7 +6,7 @@ use Prim.Native.Nat.{ℕ}
 use native.Mathlib.Omega.{arith}
 use lib.Ieee.{Float}
 use Rattle.rules.specs.Rules.{NotZero, first_of, Gives}
-use Rattle.rules.specs.Tests.{first-before, first-after}
+use Rattle.rules.proofs.Tests.{first-before, first-after}
 use Rattle.ticks.specs.declared.Fault.{Fault}
 use Rattle.ticks.specs.declared.Fault.TheVariants.{Nothing, NotANumber, Infinite, TooLarge}
 use Rattle.ticks.specs.Samples.{fault_in, FaultMeans}

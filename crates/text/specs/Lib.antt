@@ -1,11 +1,5 @@
--- What the contracts of `text` cite (`Places`, `Numbers`, `Reading`), the laws of writing (`Pieces`, `Rows`) and of digits (`Digits`),
--- and that what was printed is read back (`Back`).
+-- What the contracts of `text` cite (`Places`, `Numbers`, `Reading`), and what a row of numbers is (`Rows`). The laws are in `proofs/`.
 pub mod Places
 pub mod Numbers
 pub mod Reading
-pub mod Pieces
-pub mod Digits
 pub mod Rows
-pub mod DecimalBack
-mod HexBack
-pub mod Back

@@ -9,7 +9,7 @@ use Rattle.rules.specs.Rules.{first_of}
 use Rattle.exact.specs.Numerator.{exact_of, numerator, same_exact}
 use Rattle.coefficients.specs.Fraction.{times}
 use Rattle.coefficients.specs.Rules.{c, l, total, terms, next, divided}
-use Rattle.coefficients.specs.Scaled.{run}
+use Rattle.coefficients.specs.Scaled.{run, whole_run}
 use Rattle.coefficients.specs.Formulas.{position_corrector, velocity_corrector, older_part}
 use Rattle.ticks.specs.Round.{rounded_of}
 use Rattle.ticks.specs.Samples.{any}
@@ -52,7 +52,7 @@ record Computed : Type 0 where
   shown-3 : of_round (judged_from true (between 1 second) second third) ≡ shows 0 3 third_track none (opens third)
 
 computed : Computed
-unfolding of_int by_differences exact_of numerator times c l total terms next divided run position_corrector velocity_corrector older_part rounded_of less_before cut earlier_position earlier_velocity motion_of still older_motion sizes nowhere exact_point estimate_of point_in_range points_agree point_change closed_session reported_motion reported_point reported_change no_point no_change axis_samples next_sums back_sums run_on run_back newest_sums earlier_motion centre_sums started_axis round_of earlier_point every_below largest_below round_in_range rounds_agree largest_move held_round starting_axis starting_session opened_round points_from round_points given_round later_round
+unfolding of_int by_differences exact_of numerator times c l total terms next divided run whole_run position_corrector velocity_corrector older_part rounded_of less_before cut earlier_position earlier_velocity motion_of still older_motion sizes nowhere exact_point estimate_of point_in_range points_agree point_change closed_session reported_motion reported_point reported_change no_point no_change axis_samples next_sums back_sums run_on run_back newest_sums earlier_motion centre_sums started_axis round_of earlier_point every_below largest_below round_in_range rounds_agree largest_move held_round starting_axis starting_session opened_round points_from round_points given_round later_round
 computed =
     record {
       round-1 = refl;

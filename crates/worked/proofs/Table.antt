@@ -8,7 +8,7 @@ use Rattle.rules.specs.Rules.{first_of}
 use Rattle.exact.specs.Numerator.{exact_of, numerator, same_exact}
 use Rattle.coefficients.specs.Fraction.{times}
 use Rattle.coefficients.specs.Rules.{c, g, l, s, total, terms, next, divided}
-use Rattle.coefficients.specs.Scaled.{run}
+use Rattle.coefficients.specs.Scaled.{run, whole_run}
 use Rattle.coefficients.specs.Formulas.{position_predictor, position_corrector, velocity_predictor, velocity_corrector, older_part}
 use Rattle.ticks.specs.Round.{rounded_of}
 use Rattle.ticks.specs.Samples.{any}
@@ -59,7 +59,7 @@ record Computed : Type 0 where
   of-rounds-3 : All Rounds3.rows
 
 computed : Computed
-unfolding of_int of_bits first_of by_differences exact_of numerator same_exact times c g l s total terms next divided run position_predictor position_corrector velocity_predictor velocity_corrector older_part rounded_of any motion_of still older_motion present_motion predicted_motion corrected_motion kept_samples advanced_axis opened_axis empty_axis same_motion in_range sizes remainders_hold samples_small empty_zero older_holds points_hold settings_hold nowhere present_point estimate_of predicted_point corrected_point point_in_range points_agree point_change settled_again awaiting_at accepted_at opened_session closed_session counts_hold same_point settled_holds estimate_begins awaiting_holds holds settled awaiting reported_motion reported_point reported_change no_point no_change exact_point axis_samples opened_with open_refusal full predict_refusal agrees largest_change is_last correct_refusal open_of predict_of correct_of places_hold less_before cut earlier_position earlier_velocity has_centre next_sums back_sums run_on run_back newest_sums earlier_motion centre_sums started_axis held_round sums_zero older_zero epoch_holds axis_starts axes_start start_holds starting starting_axis starting_session opened_round round_of earlier_point every_below largest_below round_in_range rounds_agree largest_move points_from round_points no_points given_round start_refusal later_round refine_refusal start_of refine_of withdraw_of withdraw_refusal
+unfolding of_int of_bits first_of by_differences exact_of numerator same_exact times c g l s total terms next divided run whole_run position_predictor position_corrector velocity_predictor velocity_corrector older_part rounded_of any motion_of still older_motion present_motion predicted_motion corrected_motion kept_samples advanced_axis opened_axis empty_axis same_motion in_range sizes remainders_hold samples_small empty_zero older_holds points_hold settings_hold nowhere present_point estimate_of predicted_point corrected_point point_in_range points_agree point_change settled_again awaiting_at accepted_at opened_session closed_session counts_hold same_point settled_holds estimate_begins awaiting_holds holds settled awaiting reported_motion reported_point reported_change no_point no_change exact_point axis_samples opened_with open_refusal full predict_refusal agrees largest_change is_last correct_refusal open_of predict_of correct_of places_hold less_before cut earlier_position earlier_velocity has_centre next_sums back_sums run_on run_back newest_sums earlier_motion centre_sums started_axis held_round sums_zero older_zero epoch_holds axis_starts axes_start start_holds starting starting_axis starting_session opened_round round_of earlier_point every_below largest_below round_in_range rounds_agree largest_move points_from round_points no_points given_round start_refusal later_round refine_refusal start_of refine_of withdraw_of withdraw_refusal
 computed =
     record {
       of-numbers = (refl, (refl, (refl, (refl, (refl, (refl, (refl, (refl, (refl, (refl, (refl, (refl, (refl, (refl, (refl, (refl, (refl, (refl, (refl, (refl, (refl, (refl, tt))))))))))))))))))))));

@@ -8,7 +8,8 @@ use lib.IntN.{ℤ, nat_abs, ◌*ℤ◌}
 use mir.Syntax.{w64}
 use mir.Val.{SFits}
 use mir.Facts.{to_z-of_z}
-use Rattle.integers.specs.Differences.{at, size-at, size-of-product}
+use Rattle.integers.specs.Differences.{at}
+use Rattle.integers.proofs.Differences.{size-at, size-of-product}
 use Rattle.integers.specs.Size.{sfits-of-size}
 use Rattle.coefficients.specs.Formulas.{row, weights_of, own_part, largest}
 use Rattle.coefficients.specs.declared.Formula.{Formula}

@@ -2,7 +2,7 @@
 use Prim.Native.Nat.{◌^◌}
 use native.Mathlib.Omega.{arith}
 use borrow.Author.Rules.{sfits_of}
-use Rattle.exact.specs.Bounds.{widen}
+use Rattle.exact.proofs.Bounds.{widen}
 use Rattle.epoch_coefficients.proofs.Centre.{at-least-3}
 use Rattle.axis.proofs.Sums.{left_is}
 use Rattle.epoch_axis.specs.Formulas.{centre_sums}

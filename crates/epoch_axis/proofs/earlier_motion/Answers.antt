@@ -7,7 +7,7 @@ use lib.Dec.{lit≤}
 use lib.IntN.{◌+ℤ◌}
 use Rattle.integers.specs.Differences.{at, by_differences}
 use Rattle.exact.specs.Numerator.{exact_of, numerator, Bounded}
-use Rattle.exact.specs.Bounds.{wider, widen, difference-bounded}
+use Rattle.exact.proofs.Bounds.{wider, widen, difference-bounded}
 use Rattle.epoch_coefficients.specs.Formulas.{earlier_position, earlier_velocity}
 use Rattle.epoch_coefficients.proofs.Centre.{at-most-9}
 use Rattle.axis.proofs.Sums.{moved-is, motion-is}

@@ -10,8 +10,8 @@ use mir.Val.{SFits, to_z, of_z}
 use mir.Facts.{to_z-of_z}
 use Rattle.integers.specs.Differences.{at}
 use Rattle.exact.specs.Numerator.{exact_of, numerator}
-use Rattle.exact.specs.Laws.{made}
-use Rattle.exact.specs.Bounds.{wider, lowered-bounded}
+use Rattle.exact.proofs.Laws.{made}
+use Rattle.exact.proofs.Bounds.{wider, lowered-bounded}
 use Rattle.axis.specs.Formulas.{ticks}
 use Rattle.axis.proofs.Sums.{ticks-fit, left_is}
 use Rattle.epoch_axis.specs.declared.Sums.{Sums}

@@ -7,7 +7,7 @@ use mir.Syntax.{w64}
 use mir.Val.{SFits}
 use mir.Facts.{to_z-of_z}
 use Rattle.integers.specs.Differences.{at}
-use Rattle.exact.specs.Bounds.{wider}
+use Rattle.exact.proofs.Bounds.{wider}
 use Rattle.axis.proofs.Sums.{next-is}
 use Rattle.epoch_axis.specs.declared.Sums.{Sums}
 use Rattle.epoch_axis.specs.Formulas.{next_sums, run_on}

@@ -5,7 +5,7 @@ use native.Mathlib.Omega.{arith}
 use lib.IntN.{◌+ℤ◌}
 use Rattle.integers.specs.Differences.{at}
 use Rattle.exact.specs.Numerator.{exact_of, numerator}
-use Rattle.exact.specs.Bounds.{widen}
+use Rattle.exact.proofs.Bounds.{widen}
 use Rattle.epoch_coefficients.proofs.Centre.{at-least-3, at-most-9}
 use Rattle.axis.specs.Formulas.{axis_with}
 use Rattle.epoch_axis.specs.Formulas.{run_on, centre, centre_sums, started_axis}

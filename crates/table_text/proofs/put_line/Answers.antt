@@ -2,7 +2,7 @@
 use native.Mathlib.Omega.{arith}
 use borrow.Author.Rules.{rules}
 use Rattle.text.specs.Numbers.{ascii}
-use Rattle.text.specs.Pieces.{whole}
+use Rattle.text.proofs.Pieces.{whole}
 use Rattle.table_text.specs.Text.{line}
 use Rattle.table_text.proofs.put_line.Goals as goal
 

@@ -2,7 +2,7 @@
 use native.Mathlib.Omega.{arith}
 use borrow.Author.Rules.{rules}
 use Rattle.text.specs.Numbers.{ascii}
-use Rattle.text.specs.Pieces.{piece, last, has_room}
+use Rattle.text.proofs.Pieces.{piece, last, has_room}
 use Rattle.table_text.specs.Text.{table}
 use Rattle.table_text.proofs.put_table.Goals as goal
 

@@ -2,7 +2,7 @@
 use Prim.Native.Nat.{◌^◌}
 use borrow.Author.Rules.{rules}
 use Rattle.integers.specs.Tests.{stop, go_on}
-use Rattle.exact.specs.Bounds.{widen}
+use Rattle.exact.proofs.Bounds.{widen}
 use Rattle.axis.specs.Agreement.{agrees_on}
 use Rattle.std.proofs.lemmas.Bool.{not_from_false, not_from_true}
 use Rattle.axis.proofs.changes.agrees_on.Goals as goal

@@ -2,7 +2,7 @@
 use Prim.Native.Nat.{◌^◌}
 use borrow.Author.Rules.{rules}
 use Rattle.exact.specs.Numerator.{Bounded}
-use Rattle.exact.specs.Bounds.{widen}
+use Rattle.exact.proofs.Bounds.{widen}
 use Rattle.axis.specs.declared.Motion.{Motion}
 use Rattle.axis.specs.Agreement.{change_of, sizes}
 use Rattle.axis.specs.Ready.{Placed}

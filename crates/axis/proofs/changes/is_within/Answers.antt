@@ -10,8 +10,8 @@ use mir.Syntax.{w64}
 use mir.ValLaws.{to_z_pos}
 use Rattle.exact.specs.declared.Exact.{Exact}
 use Rattle.exact.specs.Numerator.{D, numerator, exact_of, wholly}
-use Rattle.exact.specs.Laws.{part-below, numerator-exact_of, numerator-wholly}
-use Rattle.exact.specs.Bounds.{widen}
+use Rattle.exact.proofs.Laws.{part-below, numerator-exact_of, numerator-wholly}
+use Rattle.exact.proofs.Bounds.{widen}
 use Rattle.axis.specs.Kinds.{apart_by}
 use Rattle.axis.proofs.changes.is_within.Goals as goal
 

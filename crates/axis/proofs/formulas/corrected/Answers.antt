@@ -5,8 +5,8 @@ use borrow.Author.Rules.{sfits_of}
 use lib.IntN.{◌+ℤ◌}
 use mir.Facts.{to_z-of_z}
 use Rattle.exact.specs.Numerator.{exact_of}
-use Rattle.exact.specs.Laws.{made}
-use Rattle.exact.specs.Bounds.{widen, sum-within}
+use Rattle.exact.proofs.Laws.{made}
+use Rattle.exact.proofs.Bounds.{widen, sum-within}
 use Rattle.coefficients.specs.Formulas.{own_part}
 use Rattle.axis.proofs.Sums.{moved-is}
 use mir.Syntax.{w64}

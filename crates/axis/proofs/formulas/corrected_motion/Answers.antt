@@ -4,8 +4,8 @@ use Prim.Native.Nat.{◌^◌}
 use lib.IntN.{◌+ℤ◌}
 use mir.Facts.{to_z-of_z}
 use Rattle.exact.specs.Numerator.{exact_of, numerator}
-use Rattle.exact.specs.Laws.{made}
-use Rattle.exact.specs.Bounds.{widen}
+use Rattle.exact.proofs.Laws.{made}
+use Rattle.exact.proofs.Bounds.{widen}
 use Rattle.coefficients.specs.declared.Formula.TheVariants.{PositionCorrector, VelocityCorrector}
 use Rattle.coefficients.specs.Formulas.{own_part}
 use Rattle.axis.specs.Kinds.{of_position, of_velocity}

@@ -4,8 +4,8 @@ use Prim.Native.Nat.{◌^◌}
 use lib.IntN.{◌+ℤ◌}
 use mir.Facts.{to_z-of_z}
 use Rattle.exact.specs.Numerator.{exact_of, numerator}
-use Rattle.exact.specs.Laws.{made}
-use Rattle.exact.specs.Bounds.{widen, split-bounded}
+use Rattle.exact.proofs.Laws.{made}
+use Rattle.exact.proofs.Bounds.{widen, split-bounded}
 use mir.Syntax.{w64}
 use Rattle.axis.proofs.formulas.moved.Goals as goal
 

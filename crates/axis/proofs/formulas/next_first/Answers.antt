@@ -4,7 +4,7 @@ use Prim.Native.Nat.{◌^◌}
 use lib.IntN.{◌+ℤ◌}
 use mir.Facts.{to_z-of_z}
 use Rattle.exact.specs.Numerator.{exact_of, numerator}
-use Rattle.exact.specs.Bounds.{widen}
+use Rattle.exact.proofs.Bounds.{widen}
 use Rattle.axis.proofs.Sums.{ticks-fit}
 use mir.Syntax.{w64}
 use Rattle.axis.proofs.formulas.next_first.Goals as goal

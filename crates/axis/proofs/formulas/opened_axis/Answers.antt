@@ -4,8 +4,8 @@ use Prim.Native.Nat.{◌^◌}
 use borrow.Author.Rules.{sfits_of}
 use lib.IntN.{◌+ℤ◌}
 use Rattle.exact.specs.Numerator.{exact_of}
-use Rattle.exact.specs.Laws.{made}
-use Rattle.exact.specs.Bounds.{widen}
+use Rattle.exact.proofs.Laws.{made}
+use Rattle.exact.proofs.Bounds.{widen}
 use Rattle.axis.specs.Formulas.{axis_with, opened_axis}
 use Rattle.axis.proofs.Sums.{left_is, left-bounded}
 use Rattle.axis.proofs.formulas.opened_axis.Goals as goal

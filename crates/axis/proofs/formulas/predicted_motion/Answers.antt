@@ -1,6 +1,6 @@
 -- `axis::formulas::predicted_motion` meets its contract: the sums, each with what the samples give.
 use Prim.Native.Nat.{◌^◌}
-use Rattle.exact.specs.Bounds.{widen}
+use Rattle.exact.proofs.Bounds.{widen}
 use Rattle.coefficients.specs.declared.Formula.TheVariants.{PositionPredictor, VelocityPredictor}
 use Rattle.axis.specs.Formulas.{predicted_motion}
 use Rattle.axis.specs.Parts.{predictor_part}

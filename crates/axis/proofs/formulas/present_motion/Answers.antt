@@ -5,8 +5,8 @@ use lib.Dec.{lit≤}
 use lib.IntN.{◌+ℤ◌}
 use Rattle.integers.specs.Differences.{at, by_differences}
 use Rattle.exact.specs.Numerator.{exact_of}
-use Rattle.exact.specs.Laws.{made}
-use Rattle.exact.specs.Bounds.{widen, difference-bounded}
+use Rattle.exact.proofs.Laws.{made}
+use Rattle.exact.proofs.Bounds.{widen, difference-bounded}
 use Rattle.coefficients.specs.declared.Formula.TheVariants.{PositionCorrector, VelocityCorrector}
 use Rattle.coefficients.specs.Formulas.{position_corrector}
 use Rattle.axis.specs.Formulas.{present_motion}

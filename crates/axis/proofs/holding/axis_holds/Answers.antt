@@ -1,7 +1,7 @@
 -- `axis::holding::axis_holds` meets its contract: a sum outside the early bounds has no present point in range.
 use mathlib.Core.Path.{sym, ap, ◌∙◌}
 use Rattle.integers.specs.Tests.{stop, go_on, fails, failed, passed, clash}
-use Rattle.exact.specs.Bounds.{between-bounded}
+use Rattle.exact.proofs.Bounds.{between-bounded}
 use Rattle.axis.specs.Estimates.{same_motion, in_range}
 use Rattle.axis.specs.Holding.{older_holds, axis_holds}
 use Rattle.axis.proofs.Places.{small-samples}

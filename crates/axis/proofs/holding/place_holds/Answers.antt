@@ -4,7 +4,7 @@ use borrow.Author.Rules.{rules}
 use lib.IntN.{pos}
 use mir.Syntax.{w64}
 use mir.Facts.{to_z-of_z}
-use Rattle.integers.specs.Tests.{eqℤ-bits}
+use Rattle.integers.proofs.Tests.{eqℤ-bits}
 use Rattle.integers.specs.Size.{size_low, size-high}
 use Rattle.axis.proofs.holding.place_holds.Goals as goal
 

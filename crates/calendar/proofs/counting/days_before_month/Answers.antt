@@ -2,7 +2,7 @@
 use mathlib.Core.Path.{◌≡◌, refl, ◌∙◌, ap}
 use native.Mathlib.Omega.{arith}
 use Rattle.calendar.specs.Calendar.{sum_to, days_before_month}
-use Rattle.calendar.specs.Years.{month-most, months-most, next-month}
+use Rattle.calendar.proofs.Years.{month-most, months-most, next-month}
 use Rattle.calendar.proofs.counting.days_before_month.Goals as goal
 
 pub loop-k-init : goal.loop-k-init

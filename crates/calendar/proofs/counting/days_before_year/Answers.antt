@@ -2,7 +2,7 @@
 use mathlib.Core.Path.{sym}
 use Prim.Native.Nat.{◌-◌}
 use Rattle.calendar.specs.Calendar.{days_before_year}
-use Rattle.calendar.specs.Years.{years-length}
+use Rattle.calendar.proofs.Years.{years-length}
 use Rattle.calendar.proofs.counting.days_before_year.Goals as goal
 
 pub returns : goal.returns

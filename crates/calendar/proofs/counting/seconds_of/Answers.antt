@@ -1,7 +1,7 @@
 -- `calendar::counting::seconds_of` meets its contract.
 use native.Mathlib.Omega.{arith}
 use Rattle.calendar.specs.Calendar.{days_of, seconds_of}
-use Rattle.calendar.specs.Moments.{days-most}
+use Rattle.calendar.proofs.Moments.{days-most}
 use Rattle.calendar.proofs.counting.seconds_of.Goals as goal
 
 pub returns : goal.returns

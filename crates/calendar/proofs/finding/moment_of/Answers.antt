@@ -4,7 +4,7 @@ use Prim.Native.Nat.{ℕ, ◌+◌, ◌-◌, ◌/◌, ◌%◌, ◌≤◌, ◌<◌
 use native.Mathlib.Omega.{arith}
 use Rattle.calendar.specs.declared.Moment.{Moment}
 use Rattle.calendar.specs.Calendar.{days_of_year, days_before_year, days_before_month, Within, most_days, year_of, month_of, moment_of}
-use Rattle.calendar.specs.Moments.{year-found, month-found}
+use Rattle.calendar.proofs.Moments.{year-found, month-found}
 use Rattle.calendar.proofs.finding.moment_of.Goals as goal
 
 -- the year found, and the days before it

@@ -3,7 +3,7 @@ use mathlib.Core.Path.{◌≡◌, refl, sym, ◌∙◌, ap}
 use Prim.Native.Nat.{ℕ, ◌+◌, ◌*◌, ◌/◌, ◌≤◌, ◌<◌}
 use native.Mathlib.Omega.{arith}
 use Rattle.calendar.specs.Calendar.{days_before_year, most_days, year_of}
-use Rattle.calendar.specs.Years.{mean-low, mean-high, year-is}
+use Rattle.calendar.proofs.Years.{mean-low, mean-high, year-is}
 use Rattle.calendar.proofs.finding.year_of.Goals as goal
 
 module _ (d e : ℕ) (most : d ≤ most_days) (share : e ≡ d * 400 / 146097) where

@@ -5,7 +5,7 @@ use native.Mathlib.Omega.{arith}
 use Rattle.integers.specs.Tests.{fails}
 use Rattle.calendar.specs.declared.Moment.{Moment}
 use Rattle.calendar.specs.Calendar.{Real, is_real}
-use Rattle.calendar.specs.Moments.{tested_real, real-tested}
+use Rattle.calendar.proofs.Moments.{tested_real, real-tested}
 use Rattle.calendar.proofs.reader.is_real.Goals as goal
 
 refused : (m : Moment) → (Real m → ⊥) → false ≡ is_real m

@@ -5,7 +5,7 @@ use Rattle.integers.specs.Tests.{failed, passed}
 use Rattle.calendar.specs.declared.Reading.TheVariants.{Time}
 use Rattle.calendar.specs.Calendar.{is_real, seconds_of}
 use Rattle.calendar.specs.Text.{time_text, same_text}
-use Rattle.calendar.specs.Moments.{tested_real}
+use Rattle.calendar.proofs.Moments.{tested_real}
 use Rattle.calendar.proofs.Texts.{other_length, not-real, other_text, is-time}
 use Rattle.calendar.proofs.reader.read_time.Goals as goal
 

@@ -5,7 +5,7 @@ use mir.Syntax.{w8}
 use mir.Val.{Fits}
 use Rattle.text.specs.Numbers.{ascii}
 use Rattle.calendar.specs.Text.{time_text}
-use Rattle.calendar.specs.Back.{two_digits, four-digits}
+use Rattle.calendar.proofs.Back.{two_digits, four-digits}
 use Rattle.calendar.proofs.writer.time_bytes.Goals as goal
 
 -- a digit is a byte, and so is its character

@@ -10,7 +10,7 @@ use mir.Val.{SFits, to_z, of_z}
 use mir.Facts.{to_z-of_z}
 use Rattle.integers.specs.Parts.{integers, nat_abs-parts, one-part}
 use Rattle.integers.specs.Division.{quotient-parts, remainder-parts}
-use Rattle.decimal.specs.Rounding.{down, up}
+use Rattle.decimal.proofs.Rounding.{down, up}
 use Rattle.decimal.proofs.units.nearer.Goals as goal
 
 module _ (q : ℤ) (f : SFits w64 q) where

@@ -8,12 +8,13 @@ use mir.Val.{SFits}
 use mir.Facts.{to_z-of_z, to_z_pos}
 use borrow.Author.Rules.{rules, sfits_of}
 use Rattle.integers.specs.Parts.{Sized, integers, one-part, +-parts}
-use Rattle.integers.specs.Division.{floor_div, floor_mod, floor-law, floor_mod-<}
+use Rattle.integers.specs.Division.{floor_div, floor_mod}
+use Rattle.integers.proofs.Division.{floor-law, floor_mod-<}
 use Rattle.integers.specs.Nearest.{nearest_of}
 use Rattle.exact.specs.Numerator.{D}
 use Rattle.decimal.specs.declared.Quotient.{Quotient}
 use Rattle.decimal.specs.Units.{quotient_of}
-use Rattle.decimal.specs.Rounding.{in_two}
+use Rattle.decimal.proofs.Rounding.{in_two}
 use Rattle.decimal.proofs.Sizes.{floor-within}
 use Rattle.decimal.proofs.units.nearest.Goals as goal
 

@@ -9,7 +9,7 @@ use borrow.Author.Rules.{rules, sfits_of}
 use Rattle.integers.specs.Nearest.{nearest_of}
 use Rattle.exact.specs.Numerator.{D, numerator}
 use Rattle.decimal.specs.Units.{position_units}
-use Rattle.decimal.specs.Rounding.{scaled}
+use Rattle.decimal.proofs.Rounding.{scaled}
 use Rattle.decimal.proofs.Sizes.{times-sized, times-fits, power-most, power-least}
 use Rattle.decimal.proofs.units.position_units.Goals as goal
 

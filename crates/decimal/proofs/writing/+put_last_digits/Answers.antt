@@ -1,8 +1,8 @@
 -- `decimal::writing::put_last_digits` meets its contract.
 use Rattle.std.proofs.Common.{arith, ap, ◌≡◌, [], ◌∷◌, ◌++◌, ℕ, suc, ◌-◌, ◌/◌, ◌%◌}
 use Rattle.text.specs.Numbers.{digit, last_digits}
-use Rattle.text.specs.Pieces.{nothing, then}
-use Rattle.decimal.specs.Digits.{length-last_digits}
+use Rattle.text.proofs.Pieces.{nothing, then}
+use Rattle.decimal.proofs.Digits.{length-last_digits}
 use Rattle.decimal.proofs.writing.+put_last_digits.Goals as goal
 
 -- the two cases of the digits

@@ -7,7 +7,7 @@ use lib.IntN.{nat_abs}
 use mir.Facts.{to_z-of_z}
 use Rattle.text.proofs.Signs.{size_fits}
 use Rattle.decimal.specs.Text.{few_digits}
-use Rattle.decimal.specs.Digits.{few-digits}
+use Rattle.decimal.proofs.Digits.{few-digits}
 use mir.Syntax.{w64}
 use Rattle.decimal.proofs.writing.has_few_digits.Goals as goal
 

@@ -10,7 +10,7 @@ use lib.Signed.{lt_z}
 use mir.Syntax.{w64}
 use mir.Val.{SFits, to_z, of_z}
 use mir.Facts.{to_z-of_z}
-use Rattle.text.specs.Pieces.{then}
+use Rattle.text.proofs.Pieces.{then}
 use Rattle.decimal.specs.Text.{fixed, fixed_text}
 use Rattle.decimal.proofs.Texts.{negative-text, positive-text}
 use Rattle.decimal.proofs.writing.put_fixed.Goals as goal

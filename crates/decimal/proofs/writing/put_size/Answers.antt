@@ -5,9 +5,9 @@ use native.Mathlib.Nat.{one-le-pow}
 use native.Mathlib.Omega.{arith}
 use lib.ListN.{length}
 use Rattle.text.specs.Numbers.{decimal, ascii}
-use Rattle.text.specs.Pieces.{then}
+use Rattle.text.proofs.Pieces.{then}
 use Rattle.decimal.specs.Text.{fixed}
-use Rattle.decimal.specs.Digits.{length-fixed}
+use Rattle.decimal.proofs.Digits.{length-fixed}
 use Rattle.decimal.proofs.writing.put_size.Goals as goal
 
 pub nonzero_div-whole : goal.nonzero_div-whole

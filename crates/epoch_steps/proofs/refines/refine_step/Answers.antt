@@ -9,7 +9,7 @@ use borrow.Author.Tests.{ne_eqb, eq-eqb}
 use lib.ListN.{drop}
 use Rattle.integers.specs.Tests.{failed, passed}
 use Rattle.rules.specs.Rules.{Gives}
-use Rattle.rules.specs.Tests.{hit-not, past-not, given}
+use Rattle.rules.proofs.Tests.{hit-not, past-not, given}
 use Rattle.epoch_coefficients.proofs.Centre.{at-most-9}
 use Rattle.epoch_session.specs.Records.{starting}
 use Rattle.epoch_session.proofs.Rules.{starting-round}

@@ -9,7 +9,7 @@ use borrow.Author.Tests.{ne_eqb, eq-eqb}
 use lib.ListN.{drop}
 use Rattle.integers.specs.Tests.{failed, passed}
 use Rattle.rules.specs.Rules.{first_of, Gives}
-use Rattle.rules.specs.Tests.{hit-not, past-not, given}
+use Rattle.rules.proofs.Tests.{hit-not, past-not, given}
 use Rattle.epoch_coefficients.specs.Formulas.{has_centre}
 use Rattle.epoch_coefficients.proofs.Centre.{at-most-9}
 use Rattle.session.specs.Moves.{point_in_range}

@@ -7,7 +7,7 @@ use mathlib.Core.List.{[], ◌∷◌}
 use Prim.Native.Nat.{ℕ}
 use Rattle.integers.specs.Tests.{failed, passed}
 use Rattle.rules.specs.Rules.{Gives}
-use Rattle.rules.specs.Tests.{hit-not, past-not, none-given}
+use Rattle.rules.proofs.Tests.{hit-not, past-not, none-given}
 use Rattle.epoch_session.specs.Rounds.{round_in_range}
 use Rattle.epoch_session.specs.Ready.{ReadyRound}
 use Rattle.steps.proofs.Samples.{samples-refuse, samples-pass}

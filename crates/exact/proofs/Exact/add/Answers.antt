@@ -8,8 +8,8 @@ use borrow.Author.Rules.{rules}
 use Rattle.exact.specs.declared.Exact.{Exact}
 use Rattle.integers.specs.Parts.{integers, +-parts}
 use Rattle.exact.specs.Numerator.{D, exact_of, numerator, Bounded}
-use Rattle.exact.specs.Laws.{numerator-parts, is-exact_of}
-use Rattle.exact.specs.Bounds.{bounded-fits}
+use Rattle.exact.proofs.Laws.{numerator-parts, is-exact_of}
+use Rattle.exact.proofs.Bounds.{bounded-fits}
 use Rattle.exact.proofs.Exact.add.Goals as goal
 
 module _ (a b : Exact) (ha : Bounded (2 ^ 62) a) (hb : Bounded (2 ^ 62) b) where

@@ -13,7 +13,7 @@ use Rattle.exact.specs.declared.Exact.{Exact}
 use Rattle.integers.specs.Parts.{integers}
 use Rattle.integers.specs.Tests.{agree}
 use Rattle.exact.specs.Numerator.{D, numerator}
-use Rattle.exact.specs.Laws.{numerator-parts}
+use Rattle.exact.proofs.Laws.{numerator-parts}
 use Rattle.exact.proofs.Exact.at_most.Goals as goal
 
 module _ (a b : Exact) (ha : a.part < D) (hb : b.part < D) where

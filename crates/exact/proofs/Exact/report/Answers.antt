@@ -1,6 +1,6 @@
 -- `Exact::report` meets its contract.
 use borrow.Author.Rules.{rules}
-use Rattle.exact.specs.Casts.{cast-loses-nothing}
+use Rattle.exact.proofs.Casts.{cast-loses-nothing}
 use Rattle.exact.proofs.Exact.report.Goals as goal
 
 pub int_to_float-whole : goal.int_to_float-whole

@@ -5,7 +5,8 @@ use borrow.Author.Rules.{rules}
 use borrow.Author.Tests.{eq-eqb, ne_eqb}
 use mir.Syntax.{w64}
 use mir.Val.{of_z}
-use Rattle.integers.specs.Tests.{and_no, and_yes, eqℤ, eqℤ-bits}
+use Rattle.integers.specs.Tests.{and_no, and_yes, eqℤ}
+use Rattle.integers.proofs.Tests.{eqℤ-bits}
 use Rattle.exact.specs.Numerator.{same_exact}
 use Rattle.exact.proofs.Exact.same.Goals as goal
 

@@ -12,7 +12,7 @@ use borrow.Author.Rules.{rules}
 use Rattle.integers.specs.Parts.{Sized, integers, +-parts, difference-parts, multiple-parts, nat_abs-parts, one-part}
 use Rattle.integers.specs.Size.{cast_fits}
 use Rattle.exact.specs.Numerator.{D, exact_of}
-use Rattle.exact.specs.Laws.{is-exact_of}
+use Rattle.exact.proofs.Laws.{is-exact_of}
 use Rattle.exact.proofs.Exact.settle.Goals as goal
 
 module _ (q m : ℤ) (sq : Sized (2 ^ 62) q) (sm : Sized (D - 1) m) where

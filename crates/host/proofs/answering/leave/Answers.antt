@@ -1,5 +1,5 @@
 -- `host::answering::leave` meets its contract: both slices are filled.
-use Rattle.image.specs.Lengths.{length-record_words}
+use Rattle.image.proofs.Lengths.{length-record_words}
 use Rattle.image.proofs.Puts.{put_all}
 use Rattle.host.proofs.Lengths.{length-answer}
 use native.Mathlib.Omega.{arith}

@@ -1,6 +1,6 @@
 -- `host::answering::put_reported` meets its contract: the exact value, and the report's bits.
 use mathlib.Core.List.{[], ◌∷◌}
-use Rattle.image.specs.Lengths.{length-exact_words}
+use Rattle.image.proofs.Lengths.{length-exact_words}
 use Rattle.host.specs.Answers.{reported_words}
 use native.Mathlib.Omega.{arith}
 use Rattle.image.proofs.Puts.{renamed, put_then}

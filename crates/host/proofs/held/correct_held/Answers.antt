@@ -1,5 +1,5 @@
 -- `host::held::correct_held` meets its contract: by the state.
-use Rattle.rules.specs.Tests.{hit-not}
+use Rattle.rules.proofs.Tests.{hit-not}
 use Rattle.steps.proofs.Results.{correct-gives}
 use Rattle.host.proofs.States.{awaiting-by, awaiting-held}
 use Rattle.session.specs.declared.State.TheVariants.{Closed, Settled, Starting}

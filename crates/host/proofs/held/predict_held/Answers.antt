@@ -1,5 +1,5 @@
 -- `host::held::predict_held` meets its contract: by the state.
-use Rattle.rules.specs.Tests.{hit-not}
+use Rattle.rules.proofs.Tests.{hit-not}
 use Rattle.session.specs.declared.State.TheVariants.{Closed, Awaiting, Starting}
 use Rattle.host.proofs.States.{settled-by, settled-held}
 use Rattle.steps.proofs.Results.{predict-gives}

@@ -1,5 +1,5 @@
 -- `host::held::withdraw_held` meets its contract: by the state.
-use Rattle.rules.specs.Tests.{hit-not}
+use Rattle.rules.proofs.Tests.{hit-not}
 use Rattle.host.proofs.States.{awaiting-by, awaiting-held}
 use Rattle.session.specs.declared.State.TheVariants.{Closed, Settled, Starting}
 use Rattle.steps.proofs.Results.{withdraw-gives}

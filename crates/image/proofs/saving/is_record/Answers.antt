@@ -3,7 +3,7 @@ use mathlib.Core.Path.{◌∙◌, ap}
 use native.Mathlib.Omega.{arith}
 use Rattle.image.specs.Bytes.{same_bytes}
 use Rattle.image.specs.Layout.{record_bytes}
-use Rattle.image.specs.Lengths.{length-record_words}
+use Rattle.image.proofs.Lengths.{length-record_words}
 use Rattle.image.proofs.Puts.{put_all}
 use Rattle.image.proofs.saving.is_record.Goals as goal
 

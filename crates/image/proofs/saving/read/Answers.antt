@@ -4,9 +4,9 @@ use mathlib.Core.Bool.{true, false}
 use lib.ListN.{length}
 use Rattle.integers.specs.Tests.{failed, passed}
 use Rattle.image.specs.Bytes.{same_bytes}
-use Rattle.image.specs.Words.{same_bytes-false}
+use Rattle.image.proofs.WordLaws.{same_bytes-false}
 use Rattle.image.specs.Layout.{record_bytes}
-use Rattle.image.specs.Lengths.{length-record_bytes}
+use Rattle.image.proofs.Lengths.{length-record_bytes}
 use Rattle.image.specs.Standing.{standing, image_of}
 use Rattle.image.specs.Reading.{session_in, held_in, is_image, read_of}
 use Rattle.std.proofs.lemmas.Bool.{not_from_false, not_from_true}

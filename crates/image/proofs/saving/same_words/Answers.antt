@@ -5,7 +5,8 @@ use Prim.Native.Nat.{◌+◌, ◌*◌}
 use native.Mathlib.Omega.{arith}
 use lib.Seq.{take_all}
 use Rattle.image.specs.Bytes.{word_at}
-use Rattle.image.specs.Words.{AreBytes, one-more-word, same_bytes-false, same-same_bytes}
+use Rattle.image.proofs.WordLaws.{AreBytes}
+use Rattle.image.proofs.WordLaws.{one-more-word, same_bytes-false, same-same_bytes}
 use Rattle.image.proofs.saving.same_words.Goals as goal
 
 pub returns-then-word_at : goal.returns-then-word_at

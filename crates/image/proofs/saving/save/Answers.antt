@@ -7,7 +7,7 @@ use borrow.Author.Tests.{lt-ltb, le-ltb}
 use lib.ListN.{length, drop}
 use Rattle.image.specs.Bytes.{in_bytes}
 use Rattle.image.specs.Layout.{record_words, record_bytes}
-use Rattle.image.specs.Lengths.{length-record_words}
+use Rattle.image.proofs.Lengths.{length-record_words}
 use Rattle.image.specs.Standing.{standing, image_of}
 use Rattle.image.specs.Reading.{too_small}
 use Rattle.image.proofs.Puts.{put_front}

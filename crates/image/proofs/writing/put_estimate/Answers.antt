@@ -1,7 +1,7 @@
 -- `image::writing::put_estimate` meets its contract: three axes.
 use native.Mathlib.Omega.{arith}
 use Rattle.image.specs.Layout.{estimate_words}
-use Rattle.image.specs.Lengths.{length-motion_words}
+use Rattle.image.proofs.Lengths.{length-motion_words}
 use Rattle.image.proofs.Puts.{put_then}
 use Rattle.image.proofs.writing.put_estimate.Goals as goal
 

@@ -1,7 +1,7 @@
 -- `image::writing::put_motion` meets its contract: position and velocity.
 use native.Mathlib.Omega.{arith}
 use Rattle.image.specs.Layout.{motion_words}
-use Rattle.image.specs.Lengths.{length-exact_words}
+use Rattle.image.proofs.Lengths.{length-exact_words}
 use Rattle.image.proofs.Puts.{put_then}
 use Rattle.image.proofs.writing.put_motion.Goals as goal
 

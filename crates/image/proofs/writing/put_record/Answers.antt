@@ -1,7 +1,7 @@
 -- `image::writing::put_record` meets its contract: the table of contents and the four bodies.
 use native.Mathlib.Omega.{arith}
 use Rattle.image.specs.Layout.{record_words}
-use Rattle.image.specs.Lengths.{length-contents, length-settings_words, length-sums_words, length-places_words}
+use Rattle.image.proofs.Lengths.{length-contents, length-settings_words, length-sums_words, length-places_words}
 use Rattle.image.proofs.Puts.{put_then}
 use Rattle.image.proofs.writing.put_record.Goals as goal
 

@@ -3,7 +3,7 @@ use mathlib.Core.Path.{◌≡◌, ap}
 use native.Mathlib.Numerals.{add-one}
 use native.Mathlib.Omega.{arith}
 use Rattle.image.specs.Layout.{places_words}
-use Rattle.image.specs.Lengths.{length-places_words}
+use Rattle.image.proofs.Lengths.{length-places_words}
 use Rattle.image.proofs.Puts.{put-none, renamed, put_then}
 use Rattle.image.proofs.writing.put_samples.Goals as goal
 

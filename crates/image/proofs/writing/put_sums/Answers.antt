@@ -1,7 +1,7 @@
 -- `image::writing::put_sums` meets its contract: three axes.
 use native.Mathlib.Omega.{arith}
 use Rattle.image.specs.Layout.{sums_words}
-use Rattle.image.specs.Lengths.{length-axis_sums}
+use Rattle.image.proofs.Lengths.{length-axis_sums}
 use Rattle.image.proofs.Puts.{put_then}
 use Rattle.image.proofs.writing.put_sums.Goals as goal
 

@@ -1,7 +1,7 @@
 -- `image::writing::put_sums_of` meets its contract: two sums and the held sum.
 use native.Mathlib.Omega.{arith}
 use Rattle.image.specs.Layout.{axis_sums}
-use Rattle.image.specs.Lengths.{length-exact_words}
+use Rattle.image.proofs.Lengths.{length-exact_words}
 use Rattle.image.proofs.Puts.{put_then}
 use Rattle.image.proofs.writing.put_sums_of.Goals as goal
 

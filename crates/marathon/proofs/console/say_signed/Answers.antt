@@ -2,7 +2,7 @@
 use Rattle.std.proofs.Common.{◌≤◌, length, ℤ, arith, length-take, to_z-of_z, w64, SFits, to_z, of_z}
 use Rattle.integers.specs.Parts.{integers, nat_abs-parts, one-part}
 use Rattle.text.specs.Numbers.{signed}
-use Rattle.text.specs.Digits.{length-signed}
+use Rattle.text.proofs.Digits.{length-signed}
 use Rattle.marathon.proofs.console.say_signed.Goals as goal
 
 short : (z : ℤ) → SFits w64 z → length (signed (to_z w64 (of_z w64 z))) ≤ 20

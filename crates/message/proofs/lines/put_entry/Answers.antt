@@ -1,7 +1,7 @@
 -- `message::lines::put_entry` meets its contract: its pieces, one after the other.
 use borrow.Author.Rules.{rules}
 use Rattle.text.specs.Numbers.{ascii}
-use Rattle.text.specs.Pieces.{piece, last}
+use Rattle.text.proofs.Pieces.{piece, last}
 use Rattle.message.specs.Message.{entry}
 use Rattle.message.proofs.lines.put_entry.Goals as goal
 

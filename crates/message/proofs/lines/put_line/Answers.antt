@@ -1,9 +1,9 @@
 -- `message::lines::put_line` meets its contract: its pieces, one after the other.
 use native.Mathlib.Omega.{arith}
 use Rattle.text.specs.Numbers.{ascii}
-use Rattle.text.specs.Pieces.{piece, last}
+use Rattle.text.proofs.Pieces.{piece, last}
 use Rattle.calendar.specs.Calendar.{moment_of}
-use Rattle.calendar.specs.Back.{text-long}
+use Rattle.calendar.proofs.Back.{text-long}
 use Rattle.message.specs.Message.{line}
 use Rattle.message.proofs.lines.put_line.Goals as goal
 

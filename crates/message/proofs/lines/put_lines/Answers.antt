@@ -3,7 +3,7 @@ use mathlib.Core.Path.{◌≡◌, ◌∙◌, ap}
 use Prim.Native.Nat.{◌+◌, ◌/◌}
 use native.Mathlib.Omega.{arith}
 use lib.ListN.{length}
-use Rattle.text.specs.Pieces.{nothing, has_room}
+use Rattle.text.proofs.Pieces.{nothing, has_room}
 use Rattle.message.specs.Request.{count_of}
 use Rattle.message.specs.Message.{texts, line_from}
 use Rattle.message.specs.Refusals.{point_holds}

@@ -1,9 +1,9 @@
 -- `message::lines::put_time_entry` meets its contract: its pieces, one after the other.
 use native.Mathlib.Omega.{arith}
 use Rattle.text.specs.Numbers.{ascii}
-use Rattle.text.specs.Pieces.{piece, last}
+use Rattle.text.proofs.Pieces.{piece, last}
 use Rattle.calendar.specs.Calendar.{moment_of}
-use Rattle.calendar.specs.Back.{text-long}
+use Rattle.calendar.proofs.Back.{text-long}
 use Rattle.message.specs.Message.{entry}
 use Rattle.message.proofs.lines.put_time_entry.Goals as goal
 

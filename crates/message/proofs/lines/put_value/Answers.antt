@@ -5,7 +5,7 @@ use borrow.Author.Rules.{sfits_of}
 use lib.ListN.{length}
 use mir.Syntax.{w64}
 use mir.Facts.{to_z-of_z}
-use Rattle.text.specs.Pieces.{then}
+use Rattle.text.proofs.Pieces.{then}
 use Rattle.message.proofs.Formed.{settings}
 use Rattle.message.proofs.Values.{holds_exact, position-ready, velocity-ready, field-position, field-velocity, length-field}
 use Rattle.message.proofs.lines.put_value.Goals as goal

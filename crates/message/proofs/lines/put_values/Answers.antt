@@ -1,7 +1,7 @@
 -- `message::lines::put_values` meets its contract. The loop's invariant: the first k values were written.
 use mathlib.Core.Path.{◌≡◌}
 use native.Mathlib.Omega.{arith}
-use Rattle.text.specs.Pieces.{nothing}
+use Rattle.text.proofs.Pieces.{nothing}
 use Rattle.message.specs.Message.{texts, field}
 use Rattle.message.proofs.Runs.{texts-room, next-text}
 use Rattle.message.proofs.Values.{values-hold}

@@ -3,7 +3,7 @@ use mathlib.Core.Path.{◌≡◌, ap}
 use native.Mathlib.Omega.{arith}
 use lib.ListN.{length}
 use Rattle.text.specs.Numbers.{decimal}
-use Rattle.text.specs.Digits.{decimal-small, length_more, length-decimal}
+use Rattle.text.proofs.Digits.{decimal-small, length_more, length-decimal}
 use Rattle.message.proofs.measures.digits.Goals as goal
 
 pub loop-left-init : goal.loop-left-init

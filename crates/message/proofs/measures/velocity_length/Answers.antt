@@ -6,7 +6,7 @@ use borrow.Author.Rules.{sfits_of}
 use mir.Facts.{to_z-of_z}
 use Rattle.integers.specs.Tests.{failed, passed}
 use Rattle.exact.specs.Numerator.{between}
-use Rattle.exact.specs.Bounds.{between-bounded}
+use Rattle.exact.proofs.Bounds.{between-bounded}
 use Rattle.decimal.specs.Units.{velocity_units}
 use Rattle.decimal.specs.Text.{few_digits, fixed_text, velocity_fits, velocity_text}
 use Rattle.message.specs.Refusals.{velocity_holds}

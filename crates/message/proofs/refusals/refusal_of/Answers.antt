@@ -3,7 +3,7 @@ use native.Mathlib.Omega.{arith}
 use borrow.Author.Tests.{lt-ltb, le-ltb, eqb-false}
 use lib.ListN.{length}
 use Rattle.integers.specs.Tests.{failed, passed}
-use Rattle.rules.specs.Tests.{hit, past, hit-not, past-not, none-given}
+use Rattle.rules.proofs.Tests.{hit, past, hit-not, past-not, none-given}
 use Rattle.message.specs.Request.{Request, request}
 use Rattle.message.specs.Message.{message}
 use Rattle.message.proofs.Wholes.{well, short, points-few, message-long, points-odd, data-none, data-long}

@@ -1,7 +1,7 @@
 -- `message::writer::put_header` meets its contract: its lines, one after the other.
 use native.Mathlib.Omega.{arith}
 use Rattle.text.specs.Numbers.{ascii}
-use Rattle.text.specs.Pieces.{piece, last, has_room}
+use Rattle.text.proofs.Pieces.{piece, last, has_room}
 use Rattle.message.specs.Parts.{header_lines}
 use Rattle.message.proofs.writer.put_header.Goals as goal
 

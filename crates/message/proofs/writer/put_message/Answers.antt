@@ -4,7 +4,7 @@ use mathlib.Core.List.{flatten}
 use Prim.Native.Nat.{◌*◌}
 use native.Mathlib.Omega.{arith}
 use lib.ListN.{length}
-use Rattle.text.specs.Pieces.{then, retold, has_room}
+use Rattle.text.proofs.Pieces.{then, retold, has_room}
 use Rattle.message.specs.Request.{Request, request, count_of}
 use Rattle.message.specs.Message.{texts, line_from}
 use Rattle.message.proofs.Wholes.{well, last-time, in_parts, parts-long, times-are, all_hold}

@@ -1,7 +1,7 @@
 -- `message::writer::put_times` meets its contract: its lines, one after the other.
 use native.Mathlib.Omega.{arith}
 use Rattle.text.specs.Numbers.{ascii}
-use Rattle.text.specs.Pieces.{piece, last, has_room}
+use Rattle.text.proofs.Pieces.{piece, last, has_room}
 use Rattle.message.specs.Parts.{time_lines}
 use Rattle.message.proofs.writer.put_times.Goals as goal
 

@@ -1,6 +1,6 @@
 -- `oem::answers::put_line` meets its contract: a word, a number, a word.
 use native.Mathlib.Omega.{arith}
-use Rattle.text.specs.Pieces.{piece, last, length-flatten}
+use Rattle.text.proofs.Pieces.{piece, last, length-flatten}
 use Rattle.oem.specs.Answers.{line_with}
 use Rattle.oem.proofs.Said.{decimal-short, said}
 use Rattle.oem.proofs.answers.put_line.Goals as goal

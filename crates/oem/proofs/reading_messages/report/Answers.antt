@@ -2,7 +2,7 @@
 use mathlib.Core.Path.{◌∙◌, ap}
 use native.Mathlib.Omega.{arith}
 use lib.ListN.{length}
-use Rattle.text.specs.Pieces.{retold}
+use Rattle.text.proofs.Pieces.{retold}
 use Rattle.received.specs.Versions.{edition_in}
 use Rattle.reports.specs.Printed.{ready, reported, report-fits, as-printed}
 use Rattle.oem.proofs.Said.{said}

@@ -8,8 +8,8 @@ use Rattle.integers.specs.Parts.{integers, nat_abs-parts, one-part}
 use Rattle.exact.specs.declared.Exact.{Exact}
 use Rattle.exact.specs.Numerator.{D, numerator, exact_of, Bounded}
 use Rattle.exact.specs.Report.{reported_of}
-use Rattle.exact.specs.Laws.{made}
-use Rattle.exact.specs.Bounds.{widen, difference-within}
+use Rattle.exact.proofs.Laws.{made}
+use Rattle.exact.proofs.Bounds.{widen, difference-within}
 use Rattle.axis.specs.Kinds.{moved_by, within}
 use Rattle.reasons.specs.Reasons.{reason, no_reason, compared}
 use Rattle.reasons.proofs.changes.compare.Goals as goal

@@ -6,7 +6,7 @@ use mathlib.Core.Bool.{cond}
 use Prim.Native.Nat.{ℕ, suc, ◌^◌, ◌≤◌}
 use native.Mathlib.Nat.{suc-ne-zero}
 use Rattle.exact.specs.Numerator.{Bounded}
-use Rattle.exact.specs.Bounds.{widen}
+use Rattle.exact.proofs.Bounds.{widen}
 use Rattle.axis.specs.Kinds.{Kind, of_position, of_velocity, tolerance_of}
 use Rattle.axis.specs.Ready.{Tolerable}
 use Rattle.session.specs.declared.Point.{Point}

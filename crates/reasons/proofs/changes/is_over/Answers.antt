@@ -18,7 +18,7 @@ use Rattle.integers.specs.Ring.{negℤ-*ℤ-left}
 use Rattle.integers.specs.Tests.{agree, failed, passed}
 use Rattle.exact.specs.declared.Exact.{Exact}
 use Rattle.exact.specs.Numerator.{D, numerator, wholly}
-use Rattle.exact.specs.Laws.{numerator-wholly}
+use Rattle.exact.proofs.Laws.{numerator-wholly}
 use Rattle.std.proofs.lemmas.Bool.{not_from_false, not_from_true}
 use Rattle.reasons.proofs.changes.is_over.Goals as goal
 

@@ -3,7 +3,7 @@ use mathlib.Core.Path.{◌≡◌, sym, ap, ◌∙◌}
 use Prim.Native.Nat.{ℕ}
 use Rattle.integers.specs.Tests.{failed, passed}
 use Rattle.rules.specs.Rules.{NotZero, first_of}
-use Rattle.rules.specs.Tests.{hit-not, past-not, given}
+use Rattle.rules.proofs.Tests.{hit-not, past-not, given}
 use Rattle.ticks.specs.declared.Fault.{Fault}
 use Rattle.ticks.specs.declared.RoundedSample.{RoundedSample}
 use Rattle.ticks.specs.declared.Sample.{Sample}

@@ -2,7 +2,7 @@
 use mathlib.Core.Path.{sym}
 use native.Mathlib.Omega.{arith}
 use Rattle.text.specs.Numbers.{ascii}
-use Rattle.text.specs.Pieces.{piece, last, has_room}
+use Rattle.text.proofs.Pieces.{piece, last, has_room}
 use Rattle.received.specs.Planning.{head_of}
 use Rattle.received.proofs.Mends.{front_long, back_long, head-long, start-long, stop-long}
 use Rattle.received.proofs.mending.put_head.Goals as goal

@@ -4,7 +4,7 @@ use mathlib.Core.List.{List, ◌++◌}
 use Prim.Native.Nat.{ℕ, ◌+◌}
 use native.Mathlib.Omega.{arith}
 use lib.ListN.{length, length-append}
-use Rattle.text.specs.Pieces.{then, retold}
+use Rattle.text.proofs.Pieces.{then, retold}
 use Rattle.received.specs.declared.planning.Plan.{Plan}
 use Rattle.received.specs.Mending.{drops_from, words}
 use Rattle.received.specs.Planning.{data_lines, change_unless, planned_list, Planned}

@@ -1,6 +1,6 @@
 -- `received::mending::put_text` meets its contract: the head, and then the lines kept.
 use native.Mathlib.Omega.{arith}
-use Rattle.text.specs.Pieces.{then}
+use Rattle.text.proofs.Pieces.{then}
 use Rattle.received.specs.Planning.{planned_text}
 use Rattle.received.proofs.Mends.{whole_long}
 use Rattle.received.proofs.mending.put_text.Goals as goal

@@ -1,6 +1,6 @@
 -- `received::mending::put_time_change` meets its contract: a time that is right leaves nothing to list.
 use mathlib.Core.List.{flatten}
-use Rattle.text.specs.Pieces.{nothing}
+use Rattle.text.proofs.Pieces.{nothing}
 use Rattle.received.specs.Planning.{change_unless}
 use Rattle.received.proofs.mending.put_time_change.Goals as goal
 

@@ -1,6 +1,6 @@
 -- `reports::changes::put_change` meets its contract: the number of the line, and what was done.
 use native.Mathlib.Omega.{arith}
-use Rattle.text.specs.Pieces.{piece, last}
+use Rattle.text.proofs.Pieces.{piece, last}
 use Rattle.reports.specs.Reports.{change_line}
 use Rattle.reports.proofs.changes.put_change.Goals as goal
 

@@ -3,7 +3,7 @@ use mathlib.Core.Path.{◌≡◌, sym, ap}
 use mathlib.Core.List.{flatten}
 use native.Mathlib.Omega.{arith}
 use lib.ListN.{length}
-use Rattle.text.specs.Pieces.{nothing, one_more, next-room, has_room, retold}
+use Rattle.text.proofs.Pieces.{nothing, one_more, next-room, has_room, retold}
 use Rattle.received.specs.Mending.{change}
 use Rattle.reports.specs.Reports.{change_text, changes_text, changes_of}
 use Rattle.reports.specs.Rooms.{length-changes}

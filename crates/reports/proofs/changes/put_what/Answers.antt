@@ -3,7 +3,7 @@ use mathlib.Core.Path.{sym, ap}
 use native.Mathlib.Omega.{arith}
 use lib.ListN.{length}
 use Rattle.text.specs.Numbers.{ascii}
-use Rattle.text.specs.Pieces.{retold}
+use Rattle.text.proofs.Pieces.{retold}
 use Rattle.reports.proofs.Cases.{what-dropped, what-start, what-stop}
 use Rattle.reports.proofs.changes.put_what.Goals as goal
 

@@ -2,7 +2,7 @@
 use mathlib.Core.Path.{sym, ap}
 use native.Mathlib.Omega.{arith}
 use lib.ListN.{length}
-use Rattle.text.specs.Pieces.{has_room, retold}
+use Rattle.text.proofs.Pieces.{has_room, retold}
 use Rattle.reports.proofs.Cases.{list-mended, list-refused}
 use Rattle.reports.proofs.list.put_list.Goals as goal
 

@@ -1,7 +1,7 @@
 -- `reports::names::put_line` meets its contract: its pieces, one after the other.
 use native.Mathlib.Omega.{arith}
 use Rattle.text.specs.Numbers.{ascii}
-use Rattle.text.specs.Pieces.{piece, last}
+use Rattle.text.proofs.Pieces.{piece, last}
 use Rattle.reports.specs.Reports.{name_line}
 use Rattle.reports.proofs.names.put_line.Goals as goal
 

@@ -1,6 +1,6 @@
 -- `reports::names::put_names` meets its contract: the lines of the sender and of the object.
 use native.Mathlib.Omega.{arith}
-use Rattle.text.specs.Pieces.{has_room, piece, last}
+use Rattle.text.proofs.Pieces.{has_room, piece, last}
 use Rattle.reports.specs.Reports.{names_in}
 use Rattle.reports.proofs.names.put_names.Goals as goal
 

@@ -1,7 +1,7 @@
 -- `reports::names::put_object` meets its contract: four lines.
 use native.Mathlib.Omega.{arith}
 use Rattle.text.specs.Numbers.{ascii}
-use Rattle.text.specs.Pieces.{has_room, piece, last}
+use Rattle.text.proofs.Pieces.{has_room, piece, last}
 use Rattle.reports.specs.Reports.{object_in, object_lines}
 use Rattle.reports.proofs.names.put_object.Goals as goal
 

@@ -1,7 +1,7 @@
 -- `reports::names::put_sender` meets its contract: two lines.
 use native.Mathlib.Omega.{arith}
 use Rattle.text.specs.Numbers.{ascii}
-use Rattle.text.specs.Pieces.{has_room, piece, last}
+use Rattle.text.proofs.Pieces.{has_room, piece, last}
 use Rattle.reports.specs.Reports.{sender_in, sender_lines}
 use Rattle.reports.proofs.names.put_sender.Goals as goal
 

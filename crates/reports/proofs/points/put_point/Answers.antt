@@ -1,7 +1,7 @@
 -- `reports::points::put_point` meets its contract: its pieces, one after the other.
 use native.Mathlib.Omega.{arith}
 use Rattle.text.specs.Numbers.{ascii}
-use Rattle.text.specs.Pieces.{piece, last}
+use Rattle.text.proofs.Pieces.{piece, last}
 use Rattle.reports.specs.Reports.{point_line}
 use Rattle.reports.proofs.points.put_point.Goals as goal
 

@@ -3,7 +3,7 @@ use mathlib.Core.Path.{◌≡◌, sym, ap}
 use mathlib.Core.List.{[], flatten}
 use native.Mathlib.Omega.{arith}
 use lib.ListN.{length}
-use Rattle.text.specs.Pieces.{nothing, one_more, next-room, has_room, retold}
+use Rattle.text.proofs.Pieces.{nothing, one_more, next-room, has_room, retold}
 use Rattle.reports.specs.Reports.{point_text, points_text, points_of}
 use Rattle.reports.specs.Rooms.{point_with, length-points}
 use Rattle.reports.proofs.Lines.{point-line}

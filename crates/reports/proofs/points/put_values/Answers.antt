@@ -11,7 +11,7 @@ use mir.Syntax.{w64}
 use mir.Val.{SFits}
 use mir.Facts.{to_z-of_z}
 use Rattle.text.specs.Numbers.{numbers}
-use Rattle.text.specs.Pieces.{nothing, then, one_more, next-room, retold}
+use Rattle.text.proofs.Pieces.{nothing, then, one_more, next-room, retold}
 use Rattle.text.specs.Rows.{spaced, numbers-row}
 use Rattle.reports.proofs.points.put_values.Goals as goal
 

@@ -2,7 +2,7 @@
 use native.Mathlib.Omega.{arith}
 use borrow.Author.Rules.{rules}
 use Rattle.text.specs.Numbers.{ascii}
-use Rattle.text.specs.Pieces.{whole}
+use Rattle.text.proofs.Pieces.{whole}
 use Rattle.reports.specs.Reports.{stopped_line}
 use Rattle.reports.proofs.refusals.put_stopped.Goals as goal
 

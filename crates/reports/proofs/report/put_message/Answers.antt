@@ -2,7 +2,7 @@
 use mathlib.Core.List.{flatten}
 use native.Mathlib.Omega.{arith}
 use lib.ListN.{take, length-append}
-use Rattle.text.specs.Pieces.{has_room, then}
+use Rattle.text.proofs.Pieces.{has_room, then}
 use Rattle.reports.specs.Reports.{names_in, points_text, points_of}
 use Rattle.reports.proofs.report.put_message.Goals as goal
 

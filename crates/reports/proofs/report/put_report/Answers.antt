@@ -2,7 +2,7 @@
 use mathlib.Core.Path.{sym, ap}
 use native.Mathlib.Omega.{arith}
 use lib.ListN.{length}
-use Rattle.text.specs.Pieces.{has_room, retold}
+use Rattle.text.proofs.Pieces.{has_room, retold}
 use Rattle.reports.proofs.Cases.{report-read, report-stopped, report-refused}
 use Rattle.reports.proofs.report.put_report.Goals as goal
 

@@ -2,7 +2,7 @@
 use mathlib.Core.Path.{◌∙◌}
 use borrow.Author.Tests.{eq-eqb, ne_eqb}
 use Rattle.integers.specs.Tests.{failed, passed}
-use Rattle.rules.specs.Tests.{hit-not, past-not, none-given}
+use Rattle.rules.proofs.Tests.{hit-not, past-not, none-given}
 use Rattle.running.proofs.On.{run-gives}
 use Rattle.std.proofs.lemmas.Bool.{not_from_false, not_from_true}
 use Rattle.running.proofs.runs.run_step.Goals as goal

@@ -4,8 +4,8 @@ use mathlib.Core.List.{[], ◌∷◌}
 use Prim.Native.Nat.{ℕ, ◌/◌, ◌%◌, ◌<◌}
 use native.Mathlib.Omega.{arith}
 use Rattle.text.specs.Numbers.{hex_digit, hex_digits}
-use Rattle.text.specs.Digits.{length-hex_digits}
-use Rattle.text.specs.Pieces.{then, retold}
+use Rattle.text.proofs.Digits.{length-hex_digits}
+use Rattle.text.proofs.Pieces.{then, retold}
 use Rattle.script.specs.Bytes.{byte_digits}
 use Rattle.script.proofs.digits.put_byte.Goals as goal
 

@@ -5,7 +5,7 @@ use Prim.Native.Nat.{◌≤◌, ◌+◌}
 use native.Mathlib.Omega.{arith}
 use lib.ListN.{length, take}
 use lib.Seq.{take_all}
-use Rattle.text.specs.Pieces.{nothing, one_more, next-room, retold}
+use Rattle.text.proofs.Pieces.{nothing, one_more, next-room, retold}
 use Rattle.script.specs.Bytes.{byte_digits, digits_of}
 use Rattle.script.proofs.digits.put_bytes.Goals as goal
 

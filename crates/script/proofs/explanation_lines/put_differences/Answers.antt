@@ -9,7 +9,7 @@ use mir.Syntax.{w64}
 use mir.Val.{SFits, to_z, of_z}
 use mir.Facts.{to_z-of_z}
 use Rattle.text.specs.Places.{Wrote}
-use Rattle.text.specs.Pieces.{retold, has_room, piece, last}
+use Rattle.text.proofs.Pieces.{retold, has_room, piece, last}
 use Rattle.script.specs.Lines.{integer, difference_words}
 use Rattle.script.proofs.explanation_lines.put_differences.Goals as goal
 

@@ -2,7 +2,7 @@
 use native.Mathlib.Omega.{arith}
 use mir.Facts.{to_z-of_z}
 use Rattle.text.specs.Numbers.{ascii}
-use Rattle.text.specs.Pieces.{piece, last}
+use Rattle.text.proofs.Pieces.{piece, last}
 use Rattle.script.specs.Lines.{integer}
 use mir.Syntax.{w64}
 use Rattle.script.proofs.explanation_lines.put_integer.Goals as goal

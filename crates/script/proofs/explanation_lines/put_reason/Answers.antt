@@ -1,7 +1,7 @@
 -- `script::explanation_lines::put_reason` meets its contract: its pieces, one after the other.
 use native.Mathlib.Omega.{arith}
 use borrow.Author.Rules.{rules}
-use Rattle.text.specs.Pieces.{has_room, whole}
+use Rattle.text.proofs.Pieces.{has_room, whole}
 use Rattle.script.specs.Lines.{reason_words}
 use Rattle.script.proofs.explanation_lines.put_reason.Goals as goal
 

@@ -2,7 +2,7 @@
 use native.Mathlib.Omega.{arith}
 use borrow.Author.Rules.{rules}
 use Rattle.text.specs.Numbers.{ascii}
-use Rattle.text.specs.Pieces.{has_room, piece, last}
+use Rattle.text.proofs.Pieces.{has_room, piece, last}
 use Rattle.script.specs.Lines.{why_line}
 use Rattle.script.proofs.explanation_lines.put_why.Goals as goal
 

@@ -1,7 +1,7 @@
 -- `script::lines::put_axes` meets its contract: its pieces, one after the other.
 use native.Mathlib.Omega.{arith}
 use borrow.Author.Rules.{rules}
-use Rattle.text.specs.Pieces.{has_room, whole}
+use Rattle.text.proofs.Pieces.{has_room, whole}
 use Rattle.script.specs.Lines.{axes_words}
 use Rattle.script.proofs.lines.put_axes.Goals as goal
 

@@ -5,7 +5,7 @@ use mir.Syntax.{w64}
 use mir.Val.{SFits}
 use mir.Facts.{to_z-of_z}
 use Rattle.text.specs.Numbers.{ascii}
-use Rattle.text.specs.Pieces.{has_room, piece, last}
+use Rattle.text.proofs.Pieces.{has_room, piece, last}
 use Rattle.script.specs.Lines.{exactly}
 use Rattle.script.proofs.lines.put_exact.Goals as goal
 

@@ -2,7 +2,7 @@
 use native.Mathlib.Omega.{arith}
 use borrow.Author.Rules.{rules}
 use Rattle.text.specs.Numbers.{ascii}
-use Rattle.text.specs.Pieces.{whole}
+use Rattle.text.proofs.Pieces.{whole}
 use Rattle.script.specs.Lines.{no_call_line}
 use Rattle.script.proofs.lines.put_no_call.Goals as goal
 

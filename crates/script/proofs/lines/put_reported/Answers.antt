@@ -5,7 +5,7 @@ use borrow.Author.Rules.{rules}
 use lib.Ieee.{binary64, to_bits}
 use lib.ListN.{length}
 use Rattle.text.specs.Numbers.{ascii, hex}
-use Rattle.text.specs.Pieces.{has_room, whole}
+use Rattle.text.proofs.Pieces.{has_room, whole}
 use Rattle.script.specs.Lines.{value}
 use Rattle.script.proofs.Lengths.{length-hex}
 use Rattle.script.proofs.lines.put_reported.Goals as goal

@@ -1,7 +1,7 @@
 -- `script::lines::put_two` meets its contract: its two pieces, one after the other.
 use native.Mathlib.Omega.{arith}
 use borrow.Author.Rules.{rules}
-use Rattle.text.specs.Pieces.{has_room, whole}
+use Rattle.text.proofs.Pieces.{has_room, whole}
 use Rattle.script.specs.Lines.{two}
 use Rattle.script.proofs.lines.put_two.Goals as goal
 

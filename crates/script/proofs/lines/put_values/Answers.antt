@@ -1,7 +1,7 @@
 -- `script::lines::put_values` meets its contract: its pieces, one after the other.
 use native.Mathlib.Omega.{arith}
 use borrow.Author.Rules.{rules}
-use Rattle.text.specs.Pieces.{has_room, whole}
+use Rattle.text.proofs.Pieces.{has_room, whole}
 use Rattle.script.specs.Lines.{answer_values}
 use Rattle.script.proofs.lines.put_values.Goals as goal
 

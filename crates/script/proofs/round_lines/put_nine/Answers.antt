@@ -5,7 +5,7 @@ use Prim.Native.Nat.{◌≤◌, ◌+◌}
 use native.Mathlib.Omega.{arith}
 use borrow.Author.Rules.{rules}
 use lib.ListN.{length, take}
-use Rattle.text.specs.Pieces.{nothing, one_more, next-room, has_room, length-flatten}
+use Rattle.text.proofs.Pieces.{nothing, one_more, next-room, has_room, length-flatten}
 use Rattle.script.specs.Lines.{point_text, nine_points}
 use Rattle.script.proofs.round_lines.put_nine.Goals as goal
 

@@ -2,7 +2,7 @@
 use native.Mathlib.Omega.{arith}
 use borrow.Author.Rules.{rules}
 use Rattle.text.specs.Numbers.{ascii}
-use Rattle.text.specs.Pieces.{has_room, whole}
+use Rattle.text.proofs.Pieces.{has_room, whole}
 use Rattle.script.specs.Lines.{round_line}
 use Rattle.script.proofs.round_lines.put_round.Goals as goal
 

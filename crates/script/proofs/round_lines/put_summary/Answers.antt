@@ -1,7 +1,7 @@
 -- `script::round_lines::put_summary` meets its contract: its pieces, one after the other.
 use native.Mathlib.Omega.{arith}
 use borrow.Author.Rules.{rules}
-use Rattle.text.specs.Pieces.{has_room, whole}
+use Rattle.text.proofs.Pieces.{has_room, whole}
 use Rattle.script.specs.Lines.{round_values}
 use Rattle.script.proofs.round_lines.put_summary.Goals as goal
 

@@ -3,7 +3,7 @@ use mathlib.Core.Path.{◌∙◌, ap}
 use native.Mathlib.Omega.{arith}
 use lib.ListN.{length}
 use Rattle.text.specs.Numbers.{ascii}
-use Rattle.text.specs.Pieces.{piece, last, retold}
+use Rattle.text.proofs.Pieces.{piece, last, retold}
 use Rattle.script.specs.Bytes.{digits_of}
 use Rattle.script.specs.Lines.{save_line}
 use Rattle.script.proofs.Saved.{whole-image}

@@ -9,7 +9,7 @@ use mir.Val.{SFits}
 use mir.Facts.{to_z-of_z}
 use Rattle.exact.specs.Numerator.{D}
 use Rattle.text.specs.Numbers.{decimal}
-use Rattle.text.specs.Pieces.{retold, piece, last}
+use Rattle.text.proofs.Pieces.{retold, piece, last}
 use Rattle.sentences.specs.Decimals.{rest_text, change_text}
 use Rattle.sentences.proofs.Sizes.{rest_below}
 use Rattle.sentences.proofs.decimals.put_change.Goals as goal

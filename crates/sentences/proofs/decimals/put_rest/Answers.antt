@@ -3,7 +3,7 @@ use mathlib.Core.Path.{sym, ◌∙◌, ap}
 use mathlib.Core.List.{◌∷◌}
 use native.Mathlib.Omega.{arith}
 use lib.ListN.{length}
-use Rattle.text.specs.Pieces.{retold, nothing, then}
+use Rattle.text.proofs.Pieces.{retold, nothing, then}
 use Rattle.sentences.specs.Decimals.{shortened}
 use Rattle.sentences.proofs.Texts.{no-decimals, decimals}
 use Rattle.sentences.proofs.decimals.put_rest.Goals as goal

@@ -2,8 +2,8 @@
 use mathlib.Core.Path.{ap}
 use native.Mathlib.Omega.{arith}
 use lib.ListN.{length}
-use Rattle.text.specs.Pieces.{retold}
-use Rattle.decimal.specs.Digits.{length-last_digits}
+use Rattle.text.proofs.Pieces.{retold}
+use Rattle.decimal.proofs.Digits.{length-last_digits}
 use Rattle.sentences.proofs.decimals.put_shortened.Goals as goal
 
 pub put_last_digits-requires : goal.put_last_digits-requires

@@ -3,7 +3,7 @@ use mathlib.Core.Path.{sym, ap}
 use native.Mathlib.Omega.{arith}
 use lib.ListN.{length}
 use mir.Facts.{to_z-of_z}
-use Rattle.text.specs.Pieces.{retold, nothing}
+use Rattle.text.proofs.Pieces.{retold, nothing}
 use Rattle.sentences.proofs.Texts.{minus, no_sign}
 use mir.Syntax.{w64}
 use Rattle.sentences.proofs.decimals.put_sign.Goals as goal

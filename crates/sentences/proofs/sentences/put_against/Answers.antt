@@ -2,7 +2,7 @@
 use native.Mathlib.Omega.{arith}
 use borrow.Author.Rules.{rules}
 use Rattle.text.specs.Numbers.{ascii}
-use Rattle.text.specs.Pieces.{whole}
+use Rattle.text.proofs.Pieces.{whole}
 use Rattle.sentences.specs.Sentences.{against}
 use Rattle.sentences.proofs.sentences.put_against.Goals as goal
 

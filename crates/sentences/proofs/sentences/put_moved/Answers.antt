@@ -2,7 +2,7 @@
 use native.Mathlib.Omega.{arith}
 use borrow.Author.Rules.{rules}
 use Rattle.text.specs.Numbers.{ascii}
-use Rattle.text.specs.Pieces.{has_room, whole}
+use Rattle.text.proofs.Pieces.{has_room, whole}
 use Rattle.sentences.specs.Sentences.{moved}
 use Rattle.sentences.proofs.sentences.put_moved.Goals as goal
 

@@ -1,7 +1,7 @@
 -- `sentences::sentences::put_named` meets its contract: its pieces, one after the other.
 use native.Mathlib.Omega.{arith}
 use borrow.Author.Rules.{rules}
-use Rattle.text.specs.Pieces.{whole}
+use Rattle.text.proofs.Pieces.{whole}
 use Rattle.sentences.specs.Sentences.{named}
 use Rattle.sentences.proofs.sentences.put_named.Goals as goal
 

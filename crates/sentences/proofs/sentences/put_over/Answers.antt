@@ -1,7 +1,7 @@
 -- `sentences::sentences::put_over` meets its contract: its pieces, one after the other.
 use native.Mathlib.Omega.{arith}
 use borrow.Author.Rules.{rules}
-use Rattle.text.specs.Pieces.{has_room, whole}
+use Rattle.text.proofs.Pieces.{has_room, whole}
 use Rattle.sentences.specs.Sentences.{over_tolerance}
 use Rattle.sentences.proofs.sentences.put_over.Goals as goal
 

@@ -4,7 +4,7 @@ use mathlib.Core.List.{flatten}
 use native.Mathlib.Omega.{arith}
 use borrow.Author.Rules.{rules}
 use Rattle.text.specs.Numbers.{ascii}
-use Rattle.text.specs.Pieces.{retold, last}
+use Rattle.text.proofs.Pieces.{retold, last}
 use Rattle.sentences.specs.Sentences.{said}
 use Rattle.sentences.proofs.Numbers.{as_said, another}
 use Rattle.sentences.proofs.sentences.put_said.Goals as goal

@@ -1,7 +1,7 @@
 -- `sentences::sentences::put_sentence` meets its contract: nothing, or the line.
 use mathlib.Core.Path.{sym, ◌∙◌, ap}
 use mathlib.Core.List.{flatten}
-use Rattle.text.specs.Pieces.{retold, nothing}
+use Rattle.text.proofs.Pieces.{retold, nothing}
 use Rattle.sentences.proofs.Texts.{nothing_said, all_said}
 use Rattle.sentences.proofs.sentences.put_sentence.Goals as goal
 

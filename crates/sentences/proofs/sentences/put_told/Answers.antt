@@ -2,7 +2,7 @@
 use native.Mathlib.Omega.{arith}
 use borrow.Author.Rules.{rules}
 use Rattle.text.specs.Numbers.{ascii}
-use Rattle.text.specs.Pieces.{has_room, piece, last}
+use Rattle.text.proofs.Pieces.{has_room, piece, last}
 use Rattle.sentences.specs.Sentences.{told}
 use Rattle.sentences.proofs.sentences.put_told.Goals as goal
 

@@ -4,7 +4,7 @@ use native.Mathlib.Omega.{arith}
 use borrow.Author.Rules.{rules}
 use lib.ListN.{length}
 use Rattle.text.specs.Numbers.{ascii}
-use Rattle.text.specs.Pieces.{retold, nothing}
+use Rattle.text.proofs.Pieces.{retold, nothing}
 use Rattle.sentences.specs.Sentences.{ordinal}
 use Rattle.sentences.proofs.NoWord.{no-ordinal}
 use Rattle.sentences.proofs.words.put_ordinal.Goals as goal

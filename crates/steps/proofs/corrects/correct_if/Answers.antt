@@ -4,7 +4,7 @@
 use mathlib.Core.Path.{◌≡◌, refl, sym, ap, ◌∙◌}
 use mathlib.Core.Bool.{true}
 use Rattle.integers.specs.Tests.{failed, passed}
-use Rattle.rules.specs.Tests.{hit-not, past-not, given}
+use Rattle.rules.proofs.Tests.{hit-not, past-not, given}
 use Rattle.ticks.specs.declared.RoundedSample.{RoundedSample}
 use Rattle.ticks.specs.Samples.{axes_of, whole_of, WithinLimit, sample_of}
 use Rattle.ticks.proofs.Faults.{whole-within}

@@ -9,7 +9,7 @@ use borrow.Author.Tests.{ne_eqb, eq-eqb}
 use lib.ListN.{drop, length}
 use Rattle.integers.specs.Tests.{failed, passed}
 use Rattle.rules.specs.Rules.{Gives}
-use Rattle.rules.specs.Tests.{hit-not, past-not}
+use Rattle.rules.proofs.Tests.{hit-not, past-not}
 use Rattle.session.specs.Moves.{point_in_range}
 use Rattle.session.specs.Numbers.{points_hold, settings_hold}
 use Rattle.session.specs.Requests.{Request, request, exact_point}

@@ -6,7 +6,7 @@ use borrow.Author.Tests.{le-leb, lt-leb}
 use lib.ListN.{drop}
 use Rattle.integers.specs.Tests.{failed, passed}
 use Rattle.rules.specs.Rules.{Gives}
-use Rattle.rules.specs.Tests.{hit, past, hit-not, past-not, none-given}
+use Rattle.rules.proofs.Tests.{hit, past, hit-not, past-not, none-given}
 use Rattle.session.specs.Holding.{settled}
 use Rattle.session.specs.Moves.{point_in_range, awaiting_at}
 use Rattle.session.proofs.Rules.{settled-ready}

@@ -1,6 +1,6 @@
 -- `steps::withdraws::withdraw_awaiting` meets its contract: settled again.
 use mathlib.Core.Path.{ap, ◌∙◌}
-use Rattle.rules.specs.Tests.{past-not, none-given}
+use Rattle.rules.proofs.Tests.{past-not, none-given}
 use Rattle.steps.proofs.Results.{withdraw-gives}
 use Rattle.steps.specs.declared.Withdrawal.TheVariants as W
 use Rattle.steps.proofs.withdraws.withdraw_awaiting.Goals as goal

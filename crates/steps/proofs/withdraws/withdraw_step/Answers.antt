@@ -1,6 +1,6 @@
 -- `steps::withdraws::withdraw_step` meets its contract: refused by 7, or settled again.
 use Rattle.integers.specs.Tests.{failed, passed}
-use Rattle.rules.specs.Tests.{hit-not}
+use Rattle.rules.proofs.Tests.{hit-not}
 use Rattle.steps.proofs.Results.{withdraw-gives}
 use Rattle.std.proofs.lemmas.Bool.{not_from_false, not_from_true}
 use Rattle.steps.proofs.withdraws.withdraw_step.Goals as goal

@@ -1,7 +1,7 @@
 -- `text::writing::put_decimal` meets its contract.
 use Rattle.std.proofs.Common.{arith, ap, length}
-use Rattle.text.specs.Pieces.{then}
-use Rattle.text.specs.Digits.{decimal-small, decimal-more, length_more}
+use Rattle.text.proofs.Pieces.{then}
+use Rattle.text.proofs.Digits.{decimal-small, decimal-more, length_more}
 use Rattle.text.proofs.writing.+put_decimal.Goals as goal
 
 pub put-requires : goal.put-requires

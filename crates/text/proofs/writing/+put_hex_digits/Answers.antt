@@ -1,8 +1,8 @@
 -- `text::writing::put_hex_digits` meets its contract.
 use Rattle.std.proofs.Common.{arith, ap, ◌≡◌, [], ◌∷◌, ◌++◌, ℕ, suc, ◌-◌, ◌/◌, ◌%◌}
 use Rattle.text.specs.Numbers.{hex_digit, hex_digits}
-use Rattle.text.specs.Digits.{length-hex_digits}
-use Rattle.text.specs.Pieces.{nothing, then}
+use Rattle.text.proofs.Digits.{length-hex_digits}
+use Rattle.text.proofs.Pieces.{nothing, then}
 use Rattle.text.proofs.writing.+put_hex_digits.Goals as goal
 
 -- the two cases of the digits

@@ -1,5 +1,5 @@
 -- `text::writing::put` meets its contract.
-use Rattle.text.specs.Pieces.{byte}
+use Rattle.text.proofs.Pieces.{byte}
 use Rattle.text.proofs.writing.put.Goals as goal
 
 pub returns : goal.returns

@@ -11,7 +11,7 @@ use mir.Syntax.{w64}
 use mir.Val.{SFits}
 use mir.Facts.{to_z-of_z}
 use Rattle.text.specs.Places.{Wrote}
-use Rattle.text.specs.Pieces.{nothing, then, one_more, next-room}
+use Rattle.text.proofs.Pieces.{nothing, then, one_more, next-room}
 use Rattle.text.specs.Rows.{spaced, numbers-row}
 use Rattle.text.proofs.writing.put_numbers.Goals as goal
 

@@ -12,7 +12,7 @@ use mir.Val.{SFits, to_z, of_z}
 use mir.Facts.{to_z-of_z}
 use Rattle.text.specs.Numbers.{signed, decimal}
 use Rattle.text.proofs.Signs.{negative-text, positive-text}
-use Rattle.text.specs.Pieces.{then}
+use Rattle.text.proofs.Pieces.{then}
 use Rattle.text.proofs.writing.put_signed.Goals as goal
 
 -- what the test and the size say of the text

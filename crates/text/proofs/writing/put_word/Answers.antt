@@ -2,7 +2,7 @@
 use native.Mathlib.Omega.{arith}
 use native.Mathlib.Numerals.{add-one}
 use lib.Seq.{take_all, take-suc, length-take-le}
-use Rattle.text.specs.Pieces.{nothing, then}
+use Rattle.text.proofs.Pieces.{nothing, then}
 use Rattle.text.proofs.writing.put_word.Goals as goal
 
 pub loop-i-init : goal.loop-i-init

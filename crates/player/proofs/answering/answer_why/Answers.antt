@@ -1,0 +1,15 @@
+-- `player::answering::answer_why` meets its contract: the longest answer has room.
+use Rattle.std.proofs.Common.{arith}
+use Rattle.script.specs.Lines.{why_line}
+use Rattle.script.proofs.Lengths.{why-short}
+use Rattle.player.proofs.Written.{room, ends-within}
+use Rattle.player.proofs.answering.answer_why.Goals as goal
+
+pub put_why-end-requires : goal.put_why-end-requires
+put_why-end-requires c = let e = c.explain.result in room (why_line e) (why-short e) (omega arith)
+
+pub returns : goal.returns
+returns c =
+    let e = c.explain.result in
+    let end = ends-within (why_line e) (why-short e) c.put_why-end.ensures in
+    omega (arith, end)

@@ -1,0 +1,10 @@
+-- `player::calls::refine` meets its contract: the floats of the line are a part of an array of 64.
+use Rattle.std.proofs.Common.{rules}
+use Rattle.player.proofs.Floats.{floats-lie, floats-taken}
+use Rattle.player.proofs.calls.refine.Goals as goal
+
+pub slice_bounds-values-end : goal.slice_bounds-values-end
+slice_bounds-values-end c = search (rules, floats-lie)
+
+pub slice_bounds-refine-end : goal.slice_bounds-refine-end
+slice_bounds-refine-end c = search (rules, floats-taken)
