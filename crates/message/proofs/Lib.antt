@@ -11,3 +11,4 @@ mod Answers
 mod TableForms
 pub mod Table
 pub mod Laws
+pub mod Figures

@@ -4,7 +4,7 @@ use native.Mathlib.Omega.{arith}
 use lib.ListN.{length}
 use Rattle.text.proofs.Pieces.{retold}
 use Rattle.received.specs.Versions.{edition_in}
-use Rattle.reports.specs.Printed.{ready, reported, report-fits, as-printed}
+use Rattle.reports.proofs.Printed.{ready, reported, report-fits, as-printed}
 use Rattle.oem.proofs.Said.{said}
 use Rattle.oem.proofs.reading_messages.report.Goals as goal
 
