@@ -1,11 +1,12 @@
 -- The coefficients from the index on at which the formulas begin are whole times D, and the list of whole ones is then the list of all.
-use Rattle.std.specs.Prelude.{ℕ, zero, suc, ◌≡◌, refl, Bool, true, false, ◌∷◌}
+use Rattle.std.specs.Prelude.{ℕ, zero, suc, ◌≡◌, refl, Bool, true, false, ◌∷◌, ◌+◌, take}
 use Rattle.std.proofs.Common.{sym, ◌∙◌, true≢false, ap}
 use Rattle.std.proofs.Math.Bool.{Bool-set}
 use Rattle.exact.specs.Numerator.{D}
 use Rattle.coefficients.specs.Fraction.{Fraction, is_whole, times}
 use Rattle.coefficients.specs.Rules.{c, g, l, s}
 use Rattle.coefficients.specs.Scaled.{all_whole, run, times_by, whole_run, first, later}
+use Rattle.coefficients.specs.Formulas.{unsummed_cowell, adams_moulton}
 use Rattle.coefficients.proofs.Scaled.{c-whole, g-whole, l-whole, s-whole}
 
 -- from the index on at which the formulas begin
@@ -32,3 +33,13 @@ unfolding whole_run run
 whole_run-run f i zero w = refl
 whole_run-run f i (suc n) w =
     λ j. by-true D (f i) (is_whole D (f i)) refl (first f i n w) j ∷ whole_run-run f (suc i) n (later f i n w) j
+
+-- ---- so each formula's list is that of whole coefficients, with the proof (those of the four summed ones: `weights-run` in `Written`)
+
+pub unsummed_cowell-run : (p : ℕ) → unsummed_cowell p ≡ take (p + 2) (run l 0 11 l-whole)
+unfolding unsummed_cowell
+unsummed_cowell-run p = ap (take (p + 2)) (whole_run-run l 0 11 l-whole)
+
+pub adams_moulton-run : (p : ℕ) → adams_moulton p ≡ take (p + 1) (run c 0 10 c-whole)
+unfolding adams_moulton
+adams_moulton-run p = ap (take (p + 1)) (whole_run-run c 0 10 c-whole)

@@ -13,7 +13,7 @@ use Rattle.exact.specs.Numerator.{D}
 use Rattle.coefficients.specs.Fraction.{Fraction, denominator, ◌over◌, ◌⊕◌, ◌⊗◌, ◌≐◌, is_whole, times, times-exact}
 use Rattle.coefficients.specs.Rules.{c, l}
 use Rattle.coefficients.specs.Scaled.{all_whole, run, first, later}
-use Rattle.coefficients.proofs.FromFirst.{whole_run-run}
+use Rattle.coefficients.proofs.FromFirst.{unsummed_cowell-run, adams_moulton-run}
 use Rattle.coefficients.proofs.Scaled.{c-whole, l-whole}
 use Rattle.coefficients.specs.Formulas.{series, weights_of, coefficient_of, first_index, unsummed_cowell, adams_moulton}
 use Rattle.coefficients.specs.declared.Formula.{Formula}
@@ -71,9 +71,7 @@ pub formula-series : (f : Formula) (p : ℕ) → p ≤ 9 → (x : ℕ → ℤ) �
 formula-series f p h x = rw (weights-run f p) (first-series (coefficient_of f) (first_index f) p 9 h (whole_of f) x)
 
 pub cowell-series : (p : ℕ) → p ≤ 9 → (x : ℕ → ℤ) → by_differences (unsummed_cowell p) x over D ≐ series l 0 (p + 2) x
-unfolding unsummed_cowell
-cowell-series p h x = rw (whole_run-run l 0 11 l-whole) (first-series l 0 (p + 2) 11 (omega arith) l-whole x)
+cowell-series p h x = rw (unsummed_cowell-run p) (first-series l 0 (p + 2) 11 (omega arith) l-whole x)
 
 pub adams-series : (p : ℕ) → p ≤ 9 → (x : ℕ → ℤ) → by_differences (adams_moulton p) x over D ≐ series c 0 (p + 1) x
-unfolding adams_moulton
-adams-series p h x = rw (whole_run-run c 0 10 c-whole) (first-series c 0 (p + 1) 10 (omega arith) c-whole x)
+adams-series p h x = rw (adams_moulton-run p) (first-series c 0 (p + 1) 10 (omega arith) c-whole x)
