@@ -14,7 +14,8 @@ module without its folder is one of the folder, else of the crate, that was last
   contract of `f`            a function of that name
   `label` (in `crate`)       under the head "edits that are refused": an edit of that crate, else of a crate named under the heading
   any other                  a crate, a library of the kit, a file, or defined somewhere in crates/
-Of README and every document of docs/ the paths are held, and the names under the head "crate".
+Of README and every document of docs/ the paths are held, and the names under the head "crate"; not of PORT, which names what was beside
+what is.
 """
 import pathlib
 import re
@@ -191,7 +192,7 @@ def cells(lines):
 def check(root):
     """How many names are right, and a line for each that is not."""
     repository, right, faults = Repository(root), 0, []
-    for path in [root / "README.md", *sorted(root.glob("docs/*.md"))]:
+    for path in [root / "README.md", *sorted(path for path in root.glob("docs/*.md") if path.name != "PORT.md")]:
         document = str(path.relative_to(root))
         named = document in READ_FOR_NAMES
         for lines in sections(path.read_text(encoding="utf-8")):
