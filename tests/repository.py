@@ -22,7 +22,9 @@ class Repository:
         listed = re.sub(r"#.*", "", (root / "crates.txt").read_text(encoding="utf-8"))
         self.libraries = self.crates.union(re.findall(r"\w+", listed))
         self.text, self.defined, self.functions = {}, {}, set()
-        for path in sorted(path for path in root.glob("crates/*/*/**/*") if path.suffix in (".rt", ".antt")):
+        # not what rt makes beside them, in out/
+        sources = (path for part in PARTS for path in root.glob(f"crates/*/{part}/**/*"))
+        for path in sorted(path for path in sources if path.suffix in (".rt", ".antt")):
             text = self.text[path] = path.read_text(encoding="utf-8")
             items = ITEM.findall(text) if path.suffix == ".rt" else []
             named = MEMBER.findall(text) if path.suffix == ".rt" else LAW.findall(text)
