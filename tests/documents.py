@@ -14,8 +14,8 @@ module without its folder is one of the folder, else of the crate, that was last
   contract of `f`            a function of that name
   `label` (in `crate`)       under the head "edits that are refused": an edit of that crate, else of a crate named under the heading
   any other                  a crate, a library of the kit, a file, or defined somewhere in crates/
-Of README and every document of docs/ the paths are held, and the names under the head "crate"; not of PORT, which names what was beside
-what is.
+Of README and every document of docs/ the paths are held, and the names under the head "crate"; not of PORT and
+DESIGN-PASS, which name what was beside what is.
 """
 import pathlib
 import re

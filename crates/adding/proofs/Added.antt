@@ -12,7 +12,6 @@ use Rattle.axis.proofs.Held.{corrector_of}
 use Rattle.session.specs.Coordinates.{Coordinate, on_x, on_y, on_z, ticks_on}
 use Rattle.session.specs.Moves.{present_point}
 use Rattle.steps.specs.declared.ReportedPoint.{ReportedPoint}
-use Rattle.steps.specs.declared.Prediction.TheVariants as P
 use Rattle.demands.specs.Histories.{Implementation, predict, predicting, after, history, Entry, entries, samples_of}
 use Rattle.demands.specs.ClosedForm.{Tells, Told, Predicts}
 use Rattle.demands.specs.Demands.{Formulas, Leaves, position, velocity}
@@ -23,6 +22,7 @@ use Rattle.adding.specs.Theorems.{Adds, OfSamplesUpTo}
 use Rattle.adding.proofs.Linear.{value_by, ListsAdd, none, more, value-adds}
 use Rattle.adding.proofs.UpTo.{up_to, up-to-none, newest-of, up-to-all}
 use Rattle.adding.proofs.Points.{point-is, predictor_of, carried, prediction-is}
+use Rattle.std.specs.Prelude.{Ok}
 
 -- the samples up to n
 abbrev sampled : ℕ → Track → List WholeSample
@@ -98,7 +98,7 @@ module _ (I : Implementation) (F : Formulas I) (t : Track) (h : Called I t) wher
       ∙ ap (velocity t.origin k (entries t.events)) m
 
   -- what its next prediction tells is what the formulas give
-  next-is : (n : ℕ) → reached t ≡ n → (q : ReportedPoint) → (I.predicts t.last).answer ≡ P.Predicted q → (kind : Kind) (k : Coordinate) →
+  next-is : (n : ℕ) → reached t ≡ n → (q : ReportedPoint) → (I.predicts t.last).answer ≡ Ok q → (kind : Kind) (k : Coordinate) →
       value_in kind k q ≡ value_by (predictor_of kind) t.origin k (sampled n t)
   next-is n m q e =
       let o = t.origin in

@@ -16,7 +16,7 @@ use Rattle.integers.specs.Parts.{integers, parts-≡, nat_abs-parts, one-part, +
 use Rattle.integers.specs.Ring.{negℤ-*ℤ-left}
 use Rattle.integers.specs.Nearest.{Nearest}
 use Rattle.ticks.specs.declared.Sample.{Sample}
-use Rattle.ticks.specs.declared.Rounded.TheVariants.{Ticks}
+use Rattle.std.specs.Prelude.{Ok}
 use Rattle.ticks.specs.Round.{limit, signed, rounded_of, ticks_in}
 use Rattle.ticks.specs.Samples.{whole_of}
 use Rattle.ticks.specs.Nearest.{NearestTo}
@@ -60,8 +60,8 @@ module _ (x : Float) (z : ℤ) (w : WholeTicks x z) where
   small : nat_abs z ≤ limit
   small = omega (arith, signed-size w.negative w.size, ap nat_abs w.number, w.within)
 
-  pub whole-rounds : rounded_of x ≡ Ticks z
-  whole-rounds = (rounded-means x (Ticks z)).1 (whole-nearest, small)
+  pub whole-rounds : rounded_of x ≡ Ok z
+  whole-rounds = (rounded-means x (Ok z)).1 (whole-nearest, small)
 
 -- ---- a float addition of whole numbers is exact
 

@@ -27,7 +27,6 @@ use Rattle.session.specs.Moves.{nowhere, present_point, estimate_of, predicted_p
 use Rattle.session.specs.Apart.{points_agree, point_change}
 use Rattle.session.specs.Holding.{counts_hold, same_point, settled_holds, estimate_begins, awaiting_holds, holds, settled, awaiting}
 use Rattle.session.specs.Requests.{exact_point, Request}
-use Rattle.steps.specs.declared.Opening.TheVariants as O
 use Rattle.steps.specs.Answers.{reported_motion, reported_point, reported_change, no_point, no_change}
 use Rattle.steps.specs.Opening.{axis_samples, opened_with}
 use Rattle.steps.specs.Refusals.{open_refusal, full, predict_refusal, agrees, largest_change, is_last, correct_refusal, withdraw_refusal}
@@ -40,6 +39,7 @@ use Rattle.adding.specs.Sums.{given, tick_at, RequestsAdd, SumUpTo}
 use Rattle.adding.specs.BadVersion.{slipping}
 use Rattle.adding.specs.Theorems.{Adds}
 use Rattle.adding.proofs.Requests.{requests-add}
+use Rattle.std.specs.Prelude.{Ok}
 
 -- ---- n times H3 and H4
 
@@ -74,8 +74,8 @@ track n =
 -- ---- what the definitions compute there
 
 record Computed : Type 0 where
-  opened1 : (open_of (asks 1)).answer ≡ O.Opened
-  opened2 : (open_of (asks 2)).answer ≡ O.Opened
+  opened1 : (open_of (asks 1)).answer ≡ Ok tt
+  opened2 : (open_of (asks 2)).answer ≡ Ok tt
   tick1 : tick_at 0 (asks 1) ≡ pos 12
   tick2 : tick_at 0 (asks 2) ≡ pos 24
   none : ticks_in (rounded_of (float 0)) ≡ pos 0

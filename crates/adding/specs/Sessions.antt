@@ -1,8 +1,7 @@
 -- The sessions that there are: opened by `open`, by rounds or by a read, and called since one by one, with runs, or from C. Definitions only.
-use Rattle.std.specs.Prelude.{◌≡◌, true, List, ℕ, Float}
+use Rattle.std.specs.Prelude.{◌≡◌, true, List, ℕ, Float, Ok}
 use Rattle.session.specs.declared.Session.{Session}
 use Rattle.session.specs.Requests.{Request}
-use Rattle.steps.specs.declared.Opening.TheVariants as O
 use Rattle.steps.specs.Steps.{open_of}
 use Rattle.epoch_steps.specs.declared.Outcome.TheVariants as R
 use Rattle.epoch_steps.specs.Steps.{refine_of}
@@ -20,7 +19,7 @@ use Rattle.adding.specs.Tracks.{Track}
 
 -- an opening, and the record that it leaves
 pub data Opened : Origin → Session → Type 0 where
-  by_open : (r : Request) → (open_of r).answer ≡ O.Opened → Opened (origin r) (open_of r).session
+  by_open : (r : Request) → (open_of r).answer ≡ Ok tt → Opened (origin r) (open_of r).session
   by_rounds : (s : Session) (floats : List Float) → (refine_of s floats).answer.outcome ≡ R.Opened → Opened (start_origin s floats) (refine_of s floats).session
   by_read : (bytes : List ℕ) → is_image bytes ≡ true → OpenRecord (held_in bytes) → Opened (saved_origin (held_in bytes)) (held_in bytes)
 

@@ -1,9 +1,8 @@
 -- What is proved of tracks that add: `proofs/Theorems.antt` has a proof of each.
-use Rattle.std.specs.Prelude.{◌≡◌, ℕ, ◌≤◌, ℤ, nat_abs, ◌+ℤ◌, Float}
+use Rattle.std.specs.Prelude.{◌≡◌, ℕ, ◌≤◌, ℤ, nat_abs, ◌+ℤ◌, Float, Ok}
 use Rattle.std.specs.Float.{binary64}
 use Rattle.std.specs.Float.Ieee.{add}
 use Rattle.ticks.specs.declared.Sample.{Sample}
-use Rattle.ticks.specs.declared.Rounded.TheVariants.{Ticks}
 use Rattle.ticks.specs.Round.{limit, rounded_of, ticks_in}
 use Rattle.ticks.specs.Samples.{whole_of}
 use Rattle.axis.specs.Kinds.{Kind}
@@ -11,7 +10,6 @@ use Rattle.session.specs.Coordinates.{Coordinate, ticks_on}
 use Rattle.session.specs.Moves.{present_point}
 use Rattle.session.specs.Requests.{Request}
 use Rattle.steps.specs.declared.ReportedPoint.{ReportedPoint}
-use Rattle.steps.specs.declared.Prediction.TheVariants as P
 use Rattle.demands.specs.Histories.{Implementation, ours}
 use Rattle.demands.specs.ClosedForm.{origin}
 use Rattle.demands.specs.Demands.{Formulas, Leaves}
@@ -36,8 +34,8 @@ pub record Adds (I : Implementation) (Lives : Track → Type 0) : Type 0 where
       (kind : Kind) (k : Coordinate) →
       value_on kind k (present_point c.last) ≡ value_on kind k (present_point a.last) +ℤ value_on kind k (present_point b.last)
   pub next : (a b c : Track) → Lives a → Lives b → Lives c → (n : ℕ) → SumUpTo n a b c → reached a ≡ n → reached b ≡ n → reached c ≡ n →
-      (q r t : ReportedPoint) → (I.predicts a.last).answer ≡ P.Predicted q → (I.predicts b.last).answer ≡ P.Predicted r →
-      (I.predicts c.last).answer ≡ P.Predicted t → (kind : Kind) (k : Coordinate) →
+      (q r t : ReportedPoint) → (I.predicts a.last).answer ≡ Ok q → (I.predicts b.last).answer ≡ Ok r →
+      (I.predicts c.last).answer ≡ Ok t → (kind : Kind) (k : Coordinate) →
       value_in kind k t ≡ value_in kind k q +ℤ value_in kind k r
 
 -- ---- point n, and a prediction after it, are those of the opening and the samples up to n alone
@@ -51,7 +49,7 @@ pub record OfSamplesUpTo (Lives : Track → Type 0) : Type 0 where
 
 pub record OfWholeFloats : Type 0 where
   -- a float of whole ticks rounds to them
-  pub rounds : (x : Float) (z : ℤ) → WholeTicks x z → rounded_of x ≡ Ticks z
+  pub rounds : (x : Float) (z : ℤ) → WholeTicks x z → rounded_of x ≡ Ok z
   -- the float sum of two is their sum, where that is within the limit of a sample too
   pub sums : (x y : Float) (u v : ℤ) → WholeTicks x u → WholeTicks y v → nat_abs (u +ℤ v) ≤ limit → WholeTicks (add binary64 x y) (u +ℤ v)
   -- so a sample that is added float by float rounds to the sum of what the two round to, and so does each float of an opening

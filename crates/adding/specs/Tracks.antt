@@ -1,12 +1,11 @@
 -- A track: a session from its opening on, with the answers that its calls were given. Positions and velocities are numerators over D. Definitions only.
-use Rattle.std.specs.Prelude.{◌≡◌, ◌⊎◌, List, [], ◌∷◌, ℕ, ℤ, length}
+use Rattle.std.specs.Prelude.{◌≡◌, ◌⊎◌, List, [], ◌∷◌, ℕ, ℤ, length, Ok}
 use Rattle.exact.specs.Numerator.{numerator}
 use Rattle.axis.specs.Kinds.{Kind, of_position, of_velocity, value_of}
 use Rattle.session.specs.declared.Point.{Point}
 use Rattle.session.specs.declared.Session.{Session}
 use Rattle.session.specs.Coordinates.{Coordinate, motion_on}
 use Rattle.steps.specs.declared.ReportedPoint.{ReportedPoint}
-use Rattle.steps.specs.declared.Prediction.TheVariants as P
 use Rattle.demands.specs.Coordinates.{position_in, velocity_in}
 use Rattle.demands.specs.Histories.{Implementation, Call, Event, predicting, after, history, entries}
 use Rattle.demands.specs.ClosedForm.{Origin, Begins}
@@ -52,4 +51,4 @@ value_in of_velocity k q = velocity_in k q
 -- among the answers, one to a prediction with n points accepted, which was not refused
 abbrev pub PredictedAfter : ℕ → ReportedPoint → List Event → Type 0
 PredictedAfter n q [] = ⊥
-PredictedAfter n q (e ∷ es) = ((e ≡ predicting (P.Predicted q)) × (length (entries es) ≡ n)) ⊎ PredictedAfter n q es
+PredictedAfter n q (e ∷ es) = ((e ≡ predicting (Ok q)) × (length (entries es) ≡ n)) ⊎ PredictedAfter n q es

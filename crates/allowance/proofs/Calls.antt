@@ -9,17 +9,14 @@ use lib.ListN.{length}
 use Rattle.ticks.specs.declared.Sample.{Sample}
 use Rattle.session.specs.declared.Session.{Session}
 use Rattle.session.specs.Holding.{is_awaiting}
-use Rattle.steps.specs.declared.Prediction.{Prediction}
 use Rattle.steps.specs.declared.Correction.{Correction}
-use Rattle.steps.specs.declared.Prediction.TheVariants as P
 use Rattle.steps.specs.declared.Correction.TheVariants as C
-use Rattle.steps.specs.Answers.{prediction_answer}
+use Rattle.steps.specs.Answers.{prediction_answer, Prediction}
 use Rattle.steps.specs.Steps.{predict_of, correct_of}
 use Rattle.running.specs.declared.RunAnswer.{RunAnswer}
-use Rattle.running.specs.declared.AfterRun.{AfterRun}
 use Rattle.running.specs.Samples.{samples_in}
 use Rattle.running.specs.Runs as Runs
-use Rattle.running.specs.Runs.{come, corrected, predicted, taken_by, taken, over, on_by, on, run_refusal, run_by, run_of}
+use Rattle.running.specs.Runs.{come, corrected, predicted, taken_by, taken, over, on_by, on, run_refusal, run_by, run_of, AfterRun}
 use Rattle.running.proofs.Kept.{corrected-session}
 use Rattle.demands.specs.Histories.{Call, correct, Event, predicting, correcting, withdrawing, refining, ours, step, event, after, history, entries, samples_of}
 use Rattle.demands.specs.Records.{OpenRecord}
@@ -27,6 +24,7 @@ use Rattle.demands.specs.ClosedForm.{Origin, Begins}
 use Rattle.promised.specs.Theorems.{Keeping, Counting, Together}
 use Rattle.promised.proofs.Theorems as Promised
 use Rattle.allowance.specs.Calls.{calls_after, calls_by, calls_for, unless_over, calls_on, run_calls_by, run_calls, number_of, samples_read, told, Turn, single, running, left_by, calls_in}
+use Rattle.std.specs.Prelude.{Ok, Err}
 
 -- ---- calls after calls
 
@@ -96,12 +94,12 @@ module _ (r : RunAnswer) (s : Session) (a : Sample) where
   )
 
   predict-made : (p : Prediction) → (predict_of s).answer ≡ p → Made (predicted r a (predict_of s).session p) r s (calls_after p a)
-  predict-made (P.Predicted q) e =
+  predict-made (Ok q) e =
       let t = (predict_of s).session in (
         corrected-session r (correct_of t a).session (correct_of t a).answer,
         predicted-answer r a (correct_of t a).session (predict_of s).answer (correct_of t a).answer,
       )
-  predict-made (P.Refused n) e = (refl, λ i. record { number = (prediction_answer (sym e i)).number; points = r.points; used = r.used })
+  predict-made (Err n) e = (refl, λ i. record { number = (prediction_answer (sym e i)).number; points = r.points; used = r.used })
 
 taken_made : (run : AfterRun) (a : Sample) → Made (taken run a) run.answer run.session (calls_for run.session a)
 unfolding taken

@@ -23,10 +23,9 @@ use Rattle.steps.specs.Refusals.{predict_rules, predict_refusal, agrees, correct
 use Rattle.steps.specs.Steps.{predict_by, predict_of, judged, correct_by, correct_of}
 use Rattle.steps.proofs.Left.{predict-awaits}
 use Rattle.running.specs.declared.RunAnswer.{RunAnswer}
-use Rattle.running.specs.declared.AfterRun.{AfterRun}
 use Rattle.running.specs.Samples.{samples_in}
 use Rattle.running.specs.Runs as Runs
-use Rattle.running.specs.Runs.{come, corrected, predicted, taken_by, taken, over, on_by, on, run_rules, run_refusal, run_by, run_of}
+use Rattle.running.specs.Runs.{come, corrected, predicted, taken_by, taken, over, on_by, on, run_rules, run_refusal, run_by, run_of, AfterRun}
 use Rattle.running.proofs.Read.{length-samples}
 use Rattle.running.proofs.Kept.{waits, rests, taken-holds, points-short}
 use Rattle.running.proofs.On.{on-over}

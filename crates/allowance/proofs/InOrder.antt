@@ -11,20 +11,18 @@ use Rattle.rules.specs.Rules.{NotZero}
 use Rattle.ticks.specs.declared.Sample.{Sample}
 use Rattle.session.specs.declared.Session.{Session}
 use Rattle.session.specs.Holding.{is_awaiting}
-use Rattle.steps.specs.declared.Prediction.{Prediction}
-use Rattle.steps.specs.declared.Prediction.TheVariants as P
-use Rattle.steps.specs.Answers.{NumberedPrediction}
+use Rattle.steps.specs.Answers.{NumberedPrediction, Prediction}
 use Rattle.steps.specs.Steps.{predict_of, correct_of}
 use Rattle.steps.proofs.Answers.{predict-numbered}
 use Rattle.running.specs.declared.RunAnswer.{RunAnswer}
-use Rattle.running.specs.declared.AfterRun.{AfterRun}
 use Rattle.running.specs.Samples.{samples_in}
-use Rattle.running.specs.Runs.{come, predicted, taken_by, taken, over, on_by, on, run_refusal, run_by, run_of}
+use Rattle.running.specs.Runs.{come, predicted, taken_by, taken, over, on_by, on, run_refusal, run_by, run_of, AfterRun}
 use Rattle.running.proofs.Kept.{corrected-used}
 use Rattle.running.proofs.On.{on-over}
 use Rattle.demands.specs.Histories.{Call, predict, correct, withdraw, refine}
 use Rattle.allowance.specs.Calls.{calls_after, calls_by, calls_for, unless_over, calls_on, run_calls_by, run_calls, handed}
 use Rattle.allowance.proofs.Endings.{is-over}
+use Rattle.std.specs.Prelude.{Ok, Err}
 
 -- ---- calls after calls
 
@@ -43,8 +41,8 @@ Reads r a next calls =
     ⊎ ((handed calls ≡ []) × ((next.answer.used ≡ r.used) × NotZero next.answer.number))
 
 predicted-reads : (r : RunAnswer) (a : Sample) (s : Session) (p : Prediction) → NumberedPrediction p → Reads r a (predicted r a s p) (calls_after p a)
-predicted-reads r a s (P.Predicted q) f = inl (refl, corrected-used r (correct_of s a).session (correct_of s a).answer)
-predicted-reads r a s (P.Refused n) f = inr (refl, (refl, f))
+predicted-reads r a s (Ok q) f = inl (refl, corrected-used r (correct_of s a).session (correct_of s a).answer)
+predicted-reads r a s (Err n) f = inr (refl, (refl, f))
 
 taken-reads : (run : AfterRun) (a : Sample) → Reads run.answer a (taken run a) (calls_for run.session a)
 unfolding taken

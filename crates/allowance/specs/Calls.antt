@@ -1,25 +1,22 @@
 -- The single calls that a run makes, and histories with runs in them. Lists of calls, of events and of turns have the latest first. Definitions only.
-use Rattle.std.specs.Prelude.{ℕ, zero, suc, Bool, true, false, List, [], ◌∷◌, ◌++◌, Float, length}
+use Rattle.std.specs.Prelude.{ℕ, zero, suc, Bool, true, false, List, [], ◌∷◌, ◌++◌, Float, length, Ok, Err}
 use Rattle.ticks.specs.declared.Sample.{Sample}
 use Rattle.session.specs.declared.Session.{Session}
 use Rattle.session.specs.Holding.{is_awaiting}
-use Rattle.steps.specs.declared.Prediction.{Prediction}
-use Rattle.steps.specs.declared.Prediction.TheVariants as P
-use Rattle.steps.specs.Answers.{prediction_answer, correction_answer, withdrawal_answer}
+use Rattle.steps.specs.Answers.{prediction_answer, correction_answer, withdrawal_answer, Prediction}
 use Rattle.steps.specs.Steps.{predict_of}
 use Rattle.epoch_steps.specs.Answers.{round_answer}
 use Rattle.running.specs.declared.RunAnswer.{RunAnswer}
-use Rattle.running.specs.declared.AfterRun.{AfterRun}
 use Rattle.running.specs.Samples.{samples_in}
-use Rattle.running.specs.Runs.{come, taken, over, run_refusal, run_of}
+use Rattle.running.specs.Runs.{come, taken, over, run_refusal, run_of, AfterRun}
 use Rattle.demands.specs.Histories.{Call, predict, correct, withdraw, refine, Event, predicting, correcting, withdrawing, refining, ours, step, entries}
 
 -- ---- the calls of a run
 
 -- for one sample: a correction, and before it a prediction where the session awaits none; one that is refused is the last call
 abbrev pub calls_after : Prediction → Sample → List Call
-calls_after (P.Predicted q) a = correct a ∷ predict ∷ []
-calls_after (P.Refused n) a = predict ∷ []
+calls_after (Ok q) a = correct a ∷ predict ∷ []
+calls_after (Err n) a = predict ∷ []
 
 abbrev pub calls_by : Bool → Session → Sample → List Call
 calls_by true s a = correct a ∷ []

@@ -2,8 +2,8 @@
 use Rattle.std.specs.Prelude.{◌≡◌, ◌⊎◌, List, [], ◌∷◌, ℕ, ◌%◌, ◌≤◌, ◌<◌, Float, length}
 use Rattle.rules.specs.Rules.{Rule, rule}
 use Rattle.session.specs.declared.Session.{Session}
-use Rattle.running.specs.declared.AfterRun.{AfterRun}
 use Rattle.demands.specs.Records.{SettledRecord, AwaitingRecord}
+use Rattle.running.specs.Runs.{AfterRun}
 
 -- a run that makes no call: 7 unless the session is settled, then 2 unless the floats are three for each sample
 abbrev pub run_table : Session → List Float → List Rule

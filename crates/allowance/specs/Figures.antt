@@ -9,8 +9,7 @@ use Rattle.session.specs.declared.State.TheVariants.{Settled, Awaiting}
 use Rattle.session.specs.Moves.{became, closed_session}
 use Rattle.session.specs.Requests.{request}
 use Rattle.steps.specs.Steps.{open_of, predict_of}
-use Rattle.running.specs.declared.AfterRun.{AfterRun}
-use Rattle.running.specs.Runs.{come, run_of}
+use Rattle.running.specs.Runs.{come, run_of, AfterRun}
 
 -- ---- sessions
 

@@ -15,13 +15,11 @@ use steps::{
 fn bare(number: u8) -> Answer
     ensures { result ≡ refused number }
 {
-    let point = no_reported_point();
-    let change = no_change();
     Answer {
         number,
         kind: 0,
-        point,
-        change,
+        point: no_reported_point(),
+        change: no_change(),
     }
 }
 
@@ -29,12 +27,11 @@ fn bare(number: u8) -> Answer
 fn with_point(kind: u8, point: ReportedPoint) -> Answer
     ensures { result ≡ answer 0 kind point no_change }
 {
-    let change = no_change();
     Answer {
         number: 0,
         kind,
         point,
-        change,
+        change: no_change(),
     }
 }
 
@@ -42,8 +39,8 @@ pub fn opening_answer(opening: Opening) -> Answer
     ensures { result ≡ opening_answer opening }
 {
     match opening {
-        Opening::Opened => bare(0),
-        Opening::Refused(number) => bare(number),
+        Ok(()) => bare(0),
+        Err(refusal) => bare(refusal.number()),
     }
 }
 
@@ -51,8 +48,8 @@ pub fn prediction_answer(prediction: Prediction) -> Answer
     ensures { result ≡ prediction_answer prediction }
 {
     match prediction {
-        Prediction::Predicted(point) => with_point(0, point),
-        Prediction::Refused(number) => bare(number),
+        Ok(point) => with_point(0, point),
+        Err(refusal) => bare(refusal.number()),
     }
 }
 
@@ -75,8 +72,8 @@ pub fn withdrawal_answer(withdrawal: Withdrawal) -> Answer
     ensures { result ≡ withdrawal_answer withdrawal }
 {
     match withdrawal {
-        Withdrawal::Withdrawn => bare(0),
-        Withdrawal::Refused(number) => bare(number),
+        Ok(()) => bare(0),
+        Err(refusal) => bare(refusal.number()),
     }
 }
 
@@ -95,11 +92,9 @@ fn of_round(number: u8, kind: u8, change: ReportedMotion, track: [ReportedPoint;
 pub fn round_answer(a: RoundAnswer) -> RoundValues
     ensures { result ≡ round_answer a }
 {
-    let track = a.track;
-    let outcome = a.outcome;
-    match outcome {
-        Outcome::More(change) => of_round(0, 2, change, track),
-        Outcome::Opened => of_round(0, 3, no_change(), track),
-        Outcome::Refused(number) => of_round(number, 0, no_change(), track),
+    match a.outcome {
+        Outcome::More(change) => of_round(0, 2, change, a.track),
+        Outcome::Opened => of_round(0, 3, no_change(), a.track),
+        Outcome::Refused(number) => of_round(number, 0, no_change(), a.track),
     }
 }

@@ -25,10 +25,8 @@ pub fn agrees_on(tolerances: Tolerances, m: Motion, before: Motion) -> bool
     requires placed_2 { Placed before }
     ensures { result ≡ agrees_on tolerances m before }
 {
-    if !is_within(tolerances.position, m.position, before.position) {
-        return false;
-    }
-    is_within(tolerances.velocity, m.velocity, before.velocity)
+    is_within(tolerances.position, m.position, before.position)
+        && is_within(tolerances.velocity, m.velocity, before.velocity)
 }
 
 // By how much each of the two moved.

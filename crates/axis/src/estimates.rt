@@ -7,25 +7,17 @@ use crate::{Axis, Motion};
 pub fn with_estimate(a: Axis, estimate: Motion) -> Axis
     ensures { result ≡ estimating a estimate }
 {
-    let mut next = a;
-    next.estimate = estimate;
-    next
+    Axis { estimate, ..a }
 }
 
 pub fn same_motion(a: Motion, b: Motion) -> bool
     ensures { result ≡ same_motion a b }
 {
-    if !a.position.same(b.position) {
-        return false;
-    }
-    a.velocity.same(b.velocity)
+    a == b
 }
 
 pub fn in_range(m: Motion) -> bool
     ensures { result ≡ in_range m }
 {
-    if !m.position.is_position() {
-        return false;
-    }
-    m.velocity.is_velocity()
+    m.position.is_position() && m.velocity.is_velocity()
 }

@@ -43,8 +43,7 @@ pub fn present_motion(p: usize, a: Axis) -> Motion
     requires { Ready p a }
     ensures { result ≡ present_motion p a }
 {
-    let samples = a.samples;
-    let corrector = corrector_part(p, samples);
+    let corrector = corrector_part(p, a.samples);
     let before = a.second.subtract(a.first);
     let position = before.add(corrector.position);
     let velocity = a.first.add(corrector.velocity);
@@ -56,8 +55,7 @@ pub fn predicted_motion(p: usize, a: Axis) -> Motion
     requires { Ready p a }
     ensures { result ≡ predicted_motion p a }
 {
-    let samples = a.samples;
-    let predictor = predictor_part(p, samples);
+    let predictor = predictor_part(p, a.samples);
     let position = a.second.add(predictor.position);
     let velocity = a.first.add(predictor.velocity);
     Motion { position, velocity }
@@ -116,10 +114,8 @@ fn keep_samples(p: usize, sample: i64, samples: [i64; 9]) -> [i64; 9]
 {
     let mut out = [0i64; 9];
     out[0] = sample;
-    let mut i: usize = 1;
-    while i < p {
+    for i in 1..p {
         out[i] = samples[i - 1];
-        i += 1;
     }
     out
 }
@@ -130,8 +126,7 @@ pub fn advanced_axis(p: usize, a: Axis, sample: i64) -> Axis
     requires sample_bound { nat_abs sample ≤ 2 ^ 28 }
     ensures { result ≡ advanced_axis p a sample }
 {
-    let old = a.samples;
-    let samples = keep_samples(p, sample, old);
+    let samples = keep_samples(p, sample, a.samples);
     let first = next_first(a.first, sample);
     let second = a.second.add(first);
     let older = older_motion(p, samples);
@@ -153,8 +148,14 @@ pub fn opened_axis(p: usize, point: Motion, samples: [i64; 9]) -> Axis
     requires small { Small samples }
     ensures { result ≡ opened_axis p point samples }
 {
-    let first = left_of(point.velocity, coefficients::velocity_corrector(p, samples));
-    let before = left_of(point.position, coefficients::position_corrector(p, samples));
+    let first = left_of(
+        point.velocity,
+        coefficients::apply(Formula::VelocityCorrector, p, samples),
+    );
+    let before = left_of(
+        point.position,
+        coefficients::apply(Formula::PositionCorrector, p, samples),
+    );
     let second = before.add(first);
     let older = older_motion(p, samples);
     axis_with(first, second, older, samples, no_motion())

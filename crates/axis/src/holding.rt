@@ -1,23 +1,19 @@
 // Whether an axis keeps the rules of a record, whatever a host filled it with.
 ghost use Rattle.std.specs.Prelude.{◌≡◌, ◌≤◌};
+ghost use Rattle.integers.specs.Tests.{◌and◌};
 ghost use Rattle.axis.specs.Holding.{place_holds, places_hold, remainders_hold, axis_holds, first_fits, second_fits};
 
+use crate::switch::by_points;
 use crate::{Axis, estimates, formulas, parts};
 use exact::Exact;
 
 fn remainders_hold(a: Axis) -> bool
     ensures { result ≡ remainders_hold a }
 {
-    if !a.first.is_exact() {
-        return false;
-    }
-    if !a.second.is_exact() {
-        return false;
-    }
-    if !a.estimate.position.is_exact() {
-        return false;
-    }
-    a.estimate.velocity.is_exact()
+    a.first.is_exact()
+        && a.second.is_exact()
+        && a.estimate.position.is_exact()
+        && a.estimate.velocity.is_exact()
 }
 
 // A place that is used holds a sample, and an empty one 0.
@@ -25,43 +21,27 @@ fn place_holds(used: bool, sample: i64) -> bool
     ensures { result ≡ place_holds used sample }
 {
     if used {
-        if sample < -268_435_456 {
-            return false;
-        }
-        return sample <= 268_435_456;
+        (-268_435_456..=268_435_456).contains(&sample)
+    } else {
+        sample == 0
     }
-    sample == 0
 }
 
 fn places_by(p: usize, samples: [i64; 9]) -> bool
     ensures { result ≡ places_hold p samples }
 {
-    let mut i: usize = 0;
-    while i < 9 {
-        if !place_holds(i < p, samples[i]) {
+    for (i, sample) in samples.iter().enumerate() {
+        if !place_holds(i < p, *sample) {
             return false;
         }
-        i += 1;
     }
     true
 }
 
-// The number of points is told apart first, so that the compiled code looks at each place in one way.
 pub fn places_hold(p: usize, samples: [i64; 9]) -> bool
     ensures { result ≡ places_hold p samples }
 {
-    match p {
-        1 => places_by(1, samples),
-        2 => places_by(2, samples),
-        3 => places_by(3, samples),
-        4 => places_by(4, samples),
-        5 => places_by(5, samples),
-        6 => places_by(6, samples),
-        7 => places_by(7, samples),
-        8 => places_by(8, samples),
-        9 => places_by(9, samples),
-        _ => places_by(p, samples),
-    }
+    by_points(p, |p| places_by(p, samples))
 }
 
 // No axis whose present point is in range has a first sum outside these; within them nothing leaves its type.
@@ -78,28 +58,19 @@ fn second_fits(second: Exact) -> bool
     second.lies(-18_014_398_509_481_984, 18_014_398_509_481_984)
 }
 
+// What is looked at before anything is added.
+fn is_ready(p: usize, a: Axis) -> bool
+    ensures { result ≡ (remainders_hold a and places_hold p a.samples and first_fits a.first and second_fits a.second) }
+{
+    remainders_hold(a) && places_hold(p, a.samples) && first_fits(a.first) && second_fits(a.second)
+}
+
 pub fn axis_holds(p: usize, a: Axis) -> bool
     requires { (1 ≤ p) × (p ≤ 9) }
     ensures { result ≡ axis_holds p a }
 {
-    if !remainders_hold(a) {
-        return false;
-    }
-    let samples = a.samples;
-    if !places_hold(p, samples) {
-        return false;
-    }
-    if !first_fits(a.first) {
-        return false;
-    }
-    if !second_fits(a.second) {
-        return false;
-    }
-    if !estimates::in_range(formulas::present_motion(p, a)) {
-        return false;
-    }
-    if !estimates::in_range(a.estimate) {
-        return false;
-    }
-    estimates::same_motion(a.older, parts::older_motion(p, samples))
+    is_ready(p, a)
+        && estimates::in_range(formulas::present_motion(p, a))
+        && estimates::in_range(a.estimate)
+        && estimates::same_motion(a.older, parts::older_motion(p, a.samples))
 }

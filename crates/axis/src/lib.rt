@@ -8,6 +8,7 @@ mod estimates;
 mod formulas;
 mod holding;
 mod parts;
+mod switch;
 
 pub use changes::{agrees_on, change, larger_change};
 pub use estimates::{in_range, same_motion, with_estimate};
@@ -19,7 +20,7 @@ pub use holding::{axis_holds, places_hold};
 pub use parts::older_motion;
 
 // A position and its velocity.
-#[derive(Clone, Copy)]
+#[derive(Clone, Copy, PartialEq, Eq)]
 pub struct Motion {
     pub position: Exact,
     pub velocity: Exact,

@@ -1,10 +1,9 @@
 -- A real moment that was written is read back, and a text is read as a time only if it is the text of a real moment: each moment has one text.
-use Rattle.std.specs.Prelude.{◌≡◌, refl, Bool, true, false, cond, List, [], ◌∷◌, ◌↔◌, ℕ, ◌+◌, ◌-◌, ◌*◌, ◌/◌, ◌%◌, ◌≤◌, length}
+use Rattle.std.specs.Prelude.{Some, None, ◌≡◌, refl, Bool, true, false, cond, List, [], ◌∷◌, ◌↔◌, ℕ, ◌+◌, ◌-◌, ◌*◌, ◌/◌, ◌%◌, ◌≤◌, length}
 use Rattle.std.proofs.Common.{sym, ◌∙◌, ap, ap₂, arith, eqb-true, eq-eqb}
 use Rattle.integers.specs.Tests.{◌and◌, joined}
 use Rattle.text.specs.Numbers.{ascii, digit, last_digits}
 use Rattle.calendar.specs.declared.Moment.{Moment}
-use Rattle.calendar.specs.declared.Reading.TheVariants.{Time, Nothing}
 use Rattle.calendar.specs.Calendar.{Real, is_real, seconds_of, most_seconds, moment_of}
 use Rattle.calendar.specs.Text.{time_text, value_at, moment_in, same_text, time_in}
 use Rattle.calendar.proofs.Years.{month-most}
@@ -72,7 +71,7 @@ one-text a b r s e = sym (moment-back a r) ∙ ap moment_in e ∙ moment-back b 
 -- ---- reading
 
 -- the text of a real moment is read as its seconds
-pub time-back : (m : Moment) → Real m → time_in (time_text m) ≡ Time (seconds_of m)
+pub time-back : (m : Moment) → Real m → time_in (time_text m) ≡ Some (seconds_of m)
 unfolding time_in
 time-back m r = rw (moment-back m r, real-tested m r, same_refl (time_text m))
 
@@ -83,26 +82,26 @@ pub record TextOf (s : List ℕ) (n : ℕ) : Type 0 where
   pub text : s ≡ time_text moment
   pub seconds : n ≡ seconds_of moment
 
-pub time-only : (s : List ℕ) (n : ℕ) → time_in s ≡ Time n → TextOf s n
+pub time-only : (s : List ℕ) (n : ℕ) → time_in s ≡ Some n → TextOf s n
 unfolding time_in
 time-only s n e = by (is_real (moment_in s)) (same_text s (time_text (moment_in s))) refl refl e
   where
     by : (p q : Bool) → is_real (moment_in s) ≡ p → same_text s (time_text (moment_in s)) ≡ q
-        → cond (p and q) (Time (seconds_of (moment_in s))) Nothing ≡ Time n → TextOf s n
+        → cond (p and q) (Some (seconds_of (moment_in s))) None ≡ Some n → TextOf s n
     by true true p q e =
         record { moment = moment_in s; real = tested_real (moment_in s) p; text = same_true s (time_text (moment_in s)) q; seconds = (cc) }
     by true false p q e = absurd (let z : ◌≡◌ {A = ℕ} 0 1 = cc in omega arith)
     by false q p _ e = absurd (let z : ◌≡◌ {A = ℕ} 0 1 = cc in omega arith)
 
 -- both in terms of seconds
-pub time-exactly : (s : List ℕ) (n : ℕ) → (time_in s ≡ Time n) ↔ ((n ≤ most_seconds) × (s ≡ time_text (moment_of n)))
+pub time-exactly : (s : List ℕ) (n : ℕ) → (time_in s ≡ Some n) ↔ ((n ≤ most_seconds) × (s ≡ time_text (moment_of n)))
 time-exactly s n = (read, written)
   where
-    read : time_in s ≡ Time n → (n ≤ most_seconds) × (s ≡ time_text (moment_of n))
+    read : time_in s ≡ Some n → (n ≤ most_seconds) × (s ≡ time_text (moment_of n))
     read e =
         let t = time-only s n e in
         let m : moment_of n ≡ t.moment = ap moment_of t.seconds ∙ moment-again t.moment t.real in
         (omega (arith, t.seconds, at_most t.real), t.text ∙ ap time_text (sym m))
 
-    written : (n ≤ most_seconds) × (s ≡ time_text (moment_of n)) → time_in s ≡ Time n
-    written (h, e) = ap time_in e ∙ time-back (moment_of n) (moment-real n h) ∙ ap Time (moment-seconds n h)
+    written : (n ≤ most_seconds) × (s ≡ time_text (moment_of n)) → time_in s ≡ Some n
+    written (h, e) = ap time_in e ∙ time-back (moment_of n) (moment-real n h) ∙ ap Some (moment-seconds n h)

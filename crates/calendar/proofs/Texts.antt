@@ -1,4 +1,5 @@
 -- Laws of the test of two texts, place by place, and of the time that a text is.
+use Rattle.std.specs.Prelude.{Some, None}
 use mathlib.Core.Path.{◌≡◌, refl, ◌∙◌, ap}
 use mathlib.Core.Bool.{Bool, true, false, cond}
 use mathlib.Core.List.{List}
@@ -9,7 +10,6 @@ use lib.ListN.{length, drop, get_or, drop_of_length-le}
 use lib.Seq.{drop-cons}
 use borrow.Author.Tests.{eq-eqb, ne_eqb}
 use Rattle.integers.specs.Tests.{◌and◌, fails}
-use Rattle.calendar.specs.declared.Reading.TheVariants.{Time, Nothing}
 use Rattle.calendar.specs.Calendar.{is_real, seconds_of}
 use Rattle.calendar.specs.Text.{time_text, moment_in, same_text, time_in}
 use Rattle.calendar.proofs.Back.{same_true, text-long}
@@ -37,21 +37,21 @@ module _ (s t : List ℕ) (i : ℕ) where
 -- ---- a text is a time, or is none
 
 module _ (s : List ℕ) where
-  pub not-real : is_real (moment_in s) ≡ false → time_in s ≡ Nothing
+  pub not-real : is_real (moment_in s) ≡ false → time_in s ≡ None
   unfolding time_in
   not-real e = rw e
 
-  pub other_text : same_text s (time_text (moment_in s)) ≡ false → time_in s ≡ Nothing
+  pub other_text : same_text s (time_text (moment_in s)) ≡ false → time_in s ≡ None
   unfolding time_in
   other_text e = by (is_real (moment_in s))
     where
-      by : (t : Bool) → cond (t and same_text s (time_text (moment_in s))) (Time (seconds_of (moment_in s))) Nothing ≡ Nothing
+      by : (t : Bool) → cond (t and same_text s (time_text (moment_in s))) (Some (seconds_of (moment_in s))) None ≡ None
       by true = rw e
       by false = refl
 
-  pub other_length : (length s ≡ 19 → ⊥) → time_in s ≡ Nothing
+  pub other_length : (length s ≡ 19 → ⊥) → time_in s ≡ None
   other_length h = other_text (unlike s (time_text (moment_in s)) (λ e. h (e ∙ text-long (moment_in s))))
 
-  pub is-time : is_real (moment_in s) ≡ true → same_text s (time_text (moment_in s)) ≡ true → time_in s ≡ Time (seconds_of (moment_in s))
+  pub is-time : is_real (moment_in s) ≡ true → same_text s (time_text (moment_in s)) ≡ true → time_in s ≡ Some (seconds_of (moment_in s))
   unfolding time_in
   is-time e f = rw (e, f)

@@ -1,10 +1,8 @@
 -- The text YYYY-MM-DDThh:mm:ss of a moment, and the time that a text is. Definitions only.
-use Rattle.std.specs.Prelude.{ℕ, zero, suc, ◌+◌, ◌-◌, ◌*◌, Bool, true, false, cond, List, [], ◌∷◌, ◌++◌, eqb, get_or}
+use Rattle.std.specs.Prelude.{Option, Some, None, ℕ, zero, suc, ◌+◌, ◌-◌, ◌*◌, Bool, true, false, cond, List, [], ◌∷◌, ◌++◌, eqb, get_or}
 use Rattle.integers.specs.Tests.{◌and◌}
 use Rattle.text.specs.Numbers.{ascii, digit, last_digits}
 use Rattle.calendar.specs.declared.Moment.{Moment}
-use Rattle.calendar.specs.declared.Reading.{Reading}
-use Rattle.calendar.specs.declared.Reading.TheVariants.{Time, Nothing}
 use Rattle.calendar.specs.Calendar.{is_real, seconds_of}
 
 unfoldable pub time_text : Moment → List ℕ
@@ -38,5 +36,5 @@ same_text (a ∷ s) [] = false
 same_text (a ∷ s) (b ∷ t) = eqb a b and same_text s t
 
 -- a text is a time if its numbers are a real moment and it is just that moment's text
-unfoldable pub time_in : List ℕ → Reading
-time_in s = cond (is_real (moment_in s) and same_text s (time_text (moment_in s))) (Time (seconds_of (moment_in s))) Nothing
+unfoldable pub time_in : List ℕ → Option ℕ
+time_in s = cond (is_real (moment_in s) and same_text s (time_text (moment_in s))) (Some (seconds_of (moment_in s))) None

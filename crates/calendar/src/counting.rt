@@ -42,10 +42,8 @@ pub(crate) fn days_before_month(year: u64, month: u64) -> u64
     ensures { result ≡ days_before_month year month }
 {
     let mut days = 0;
-    let mut k = 1;
-    while k < month {
+    for k in 1..month {
         days += days_of_month(year, k);
-        k += 1;
     }
     days
 }
@@ -54,7 +52,6 @@ pub fn seconds_of(m: Moment) -> u64
     requires { Real m }
     ensures { result ≡ seconds_of m }
 {
-    let year = m.year;
-    let days = days_before_year(year) + days_before_month(year, m.month) + (m.day - 1);
+    let days = days_before_year(m.year) + days_before_month(m.year, m.month) + (m.day - 1);
     ((days * 24 + m.hour) * 60 + m.minute) * 60 + m.second
 }

@@ -23,15 +23,13 @@ fn month_of(year: u64, d: u64) -> u64
     ensures { result ≡ month_of year d }
 {
     let mut end = 0;
-    let mut month = 1;
-    while month < 12 {
+    for month in 1..12 {
         end += days_of_month(year, month);
         if d < end {
             return month;
         }
-        month += 1;
     }
-    month
+    12
 }
 
 pub fn moment_of(n: u64) -> Moment

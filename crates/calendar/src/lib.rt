@@ -9,7 +9,7 @@ mod writer;
 pub use counting::seconds_of;
 pub use finding::moment_of;
 pub use reader::{read_time, same};
-pub use writer::put_time;
+pub use writer::{put_time, time_bytes};
 
 #[derive(Clone, Copy)]
 pub struct Moment {
@@ -19,11 +19,4 @@ pub struct Moment {
     pub hour: u64,
     pub minute: u64,
     pub second: u64,
-}
-
-// What a text is: a time in whole seconds, or none.
-#[derive(Clone, Copy)]
-pub enum Reading {
-    Time(u64),
-    Nothing,
 }

@@ -3,32 +3,30 @@ ghost use Rattle.std.specs.Prelude.{◌≡◌, ◌+◌, ◌-◌, ◌≤◌, leng
 ghost use Rattle.calendar.specs.Calendar.{is_real};
 ghost use Rattle.calendar.specs.Text.{value_at, moment_in, same_text, time_in};
 
+use crate::Moment;
 use crate::counting::{days_of_month, seconds_of};
 use crate::writer::time_bytes;
-use crate::{Moment, Reading};
 
+// One test after the other: as one chain of `&&` the proof did not close.
 fn is_real(m: Moment) -> bool
     ensures { result ≡ is_real m }
 {
-    let year = m.year;
-    let month = m.month;
-    let day = m.day;
-    if year < 1 {
+    if m.year < 1 {
         return false;
     }
-    if 9999 < year {
+    if 9999 < m.year {
         return false;
     }
-    if month < 1 {
+    if m.month < 1 {
         return false;
     }
-    if 12 < month {
+    if 12 < m.month {
         return false;
     }
-    if day < 1 {
+    if m.day < 1 {
         return false;
     }
-    if days_of_month(year, month) < day {
+    if days_of_month(m.year, m.month) < m.day {
         return false;
     }
     if 23 < m.hour {
@@ -47,7 +45,7 @@ fn is_real(m: Moment) -> bool
 fn value(b: u8) -> u64
     ensures { result ≡ b - 48 }
 {
-    if b < 48 { 0 } else { (b - 48) as u64 }
+    u64::from(b.saturating_sub(b'0'))
 }
 
 fn two_at(s: &[u8], at: usize) -> u64
@@ -61,52 +59,33 @@ fn moment_in(s: &[u8]) -> Moment
     requires { length s.now ≡ 19 }
     ensures { result ≡ moment_in s.now }
 {
-    let year = two_at(s, 0) * 100 + two_at(s, 2);
-    let month = two_at(s, 5);
-    let day = two_at(s, 8);
-    let hour = two_at(s, 11);
-    let minute = two_at(s, 14);
-    let second = two_at(s, 17);
     Moment {
-        year,
-        month,
-        day,
-        hour,
-        minute,
-        second,
+        year: two_at(s, 0) * 100 + two_at(s, 2),
+        month: two_at(s, 5),
+        day: two_at(s, 8),
+        hour: two_at(s, 11),
+        minute: two_at(s, 14),
+        second: two_at(s, 17),
     }
 }
 
 pub fn same(a: &[u8], b: &[u8]) -> bool
     ensures { result ≡ same_text a.now b.now }
 {
-    if a.len() != b.len() {
-        return false;
-    }
-    let mut i = 0;
-    while i < a.len() {
-        if a[i] != b[i] {
-            return false;
-        }
-        i += 1;
-    }
-    true
+    a == b
 }
 
-// A text that is the one of the moment whose numbers it shows.
-pub fn read_time(s: &[u8]) -> Reading
+// The seconds of a text that is the one of the moment whose numbers it shows.
+pub fn read_time(s: &[u8]) -> Option<u64>
     ensures { result ≡ time_in s.now }
 {
     if s.len() != 19 {
-        return Reading::Nothing;
+        return None;
     }
     let m = moment_in(s);
-    if !is_real(m) {
-        return Reading::Nothing;
+    if is_real(m) && same(s, &time_bytes(m)) {
+        Some(seconds_of(m))
+    } else {
+        None
     }
-    let text = time_bytes(m);
-    if !same(s, &text) {
-        return Reading::Nothing;
-    }
-    Reading::Time(seconds_of(m))
 }

@@ -1,42 +1,49 @@
 // The text of a moment, written into a lent buffer.
-ghost use Rattle.std.specs.Prelude.{◌≡◌, ◌+◌, ◌≤◌, length};
-ghost use Rattle.text.specs.Places.{Wrote};
+ghost use Rattle.std.specs.Prelude.{◌≡◌, ◌%◌};
+ghost use Rattle.text.specs.Numbers.{digit};
+ghost use Rattle.text.specs.Writes.{RoomFor, Writes};
 ghost use Rattle.calendar.specs.Text.{time_text};
 
 use crate::Moment;
-use text::put_word;
+use text::Writer;
 
-pub(crate) fn time_bytes(m: Moment) -> [u8; 19]
+// The character of a number's last digit.
+fn digit(n: u64) -> u8
+    ensures { result ≡ digit (n % 10) }
+{
+    b'0' + (n % 10) as u8
+}
+
+pub fn time_bytes(m: Moment) -> [u8; 19]
     ensures { result ≡ time_text m }
 {
-    let y = m.year;
     [
-        b'0' + (y / 1000 % 10) as u8,
-        b'0' + (y / 100 % 10) as u8,
-        b'0' + (y / 10 % 10) as u8,
-        b'0' + (y % 10) as u8,
+        digit(m.year / 1000),
+        digit(m.year / 100),
+        digit(m.year / 10),
+        digit(m.year),
         b'-',
-        b'0' + (m.month / 10 % 10) as u8,
-        b'0' + (m.month % 10) as u8,
+        digit(m.month / 10),
+        digit(m.month),
         b'-',
-        b'0' + (m.day / 10 % 10) as u8,
-        b'0' + (m.day % 10) as u8,
+        digit(m.day / 10),
+        digit(m.day),
         b'T',
-        b'0' + (m.hour / 10 % 10) as u8,
-        b'0' + (m.hour % 10) as u8,
+        digit(m.hour / 10),
+        digit(m.hour),
         b':',
-        b'0' + (m.minute / 10 % 10) as u8,
-        b'0' + (m.minute % 10) as u8,
+        digit(m.minute / 10),
+        digit(m.minute),
         b':',
-        b'0' + (m.second / 10 % 10) as u8,
-        b'0' + (m.second % 10) as u8,
+        digit(m.second / 10),
+        digit(m.second),
     ]
 }
 
-pub fn put_time(out: &mut [u8], at: usize, m: Moment) -> usize
-    requires { at + 19 ≤ length out.old }
-    ensures { Wrote out.old at (time_text m) out.new result }
+pub fn put_time(w: &mut Writer<'_>, m: Moment)
+    requires { RoomFor w.old 19 }
+    ensures { Writes w.old (time_text m) w.new }
 {
     let text = time_bytes(m);
-    put_word(out, at, &text)
+    w.put_word(&text);
 }

@@ -1,46 +1,63 @@
 -- Reading so many digits, one byte at a time.
-use mathlib.Core.Path.{◌≡◌}
-use mathlib.Core.List.{List}
+use Rattle.std.specs.Prelude.{Option, Some, None}
+use mathlib.Core.Path.{◌≡◌, refl, ap}
+use mathlib.Core.Bool.{Bool, true, false, cond}
+use mathlib.Core.List.{List, [], ◌∷◌}
 use Prim.Native.Nat.{ℕ, zero, suc, ◌+◌, ◌-◌, ◌*◌, ◌^◌, ◌<◌, ◌≤◌}
 use native.Mathlib.Numerals.{add-one}
 use native.Mathlib.Omega.{arith}
-use lib.ListN.{length, drop, get_or, drop_of_length-le}
+use lib.Dec.{ltb}
+use lib.ListN.{length, take, drop, get_or}
 use lib.Seq.{drop-cons}
-use borrow.Author.Tests.{lt-ltb, le-ltb, le-leb, lt-leb}
-use Rattle.text.specs.declared.Unsigned.TheVariants.{Number, Nothing}
+use borrow.Author.Tests.{lt-ltb, le-ltb}
+use Rattle.integers.specs.Tests.{◌and◌}
+use Rattle.text.specs.Reading.{is_digit}
 use Rattle.decimal.specs.Reading.{more_digits}
 
--- a number n so far, the bytes from place i on, and so many digits left to read
-pub all_read : (s : List ℕ) (left i n : ℕ) → left ≡ 0 → more_digits left (drop i s) n i ≡ Number n i
+-- ---- all the digits: too few bytes, and none but theirs
+
+either_way : (t : Bool) (u : Option (ℕ × ℕ)) → u ≡ None → cond t u None ≡ None
+either_way true u e = e
+either_way false u e = refl
+
+pub too_few : (count : ℕ) (text : List ℕ) (n at : ℕ) → length text < count → more_digits count text n at ≡ None
 unfolding more_digits
-all_read s left i n e = rw e
+too_few zero text n at h = absurd (omega arith)
+too_few (suc k) [] n at h = refl
+too_few (suc k) (b ∷ text) n at h = either_way (is_digit b and ltb n (10 ^ 18)) _ (too_few k text (n * 10 + (b - 48)) (at + 1) (omega arith))
 
-pub ended : (s : List ℕ) (left i n : ℕ) → 0 < left → length s ≤ i → more_digits left (drop i s) n i ≡ Nothing
+same_digit : (t : Bool) (u v : Option (ℕ × ℕ)) → u ≡ v → cond t u None ≡ cond t v None
+same_digit t u v e = ap (λ o. cond t o None) e
+
+pub front : (count : ℕ) (text : List ℕ) (n at : ℕ) → more_digits count (take count text) n at ≡ more_digits count text n at
 unfolding more_digits
-ended s zero i n p h = absurd (omega arith)
-ended s (suc k) i n p h = rw (drop_of_length-le s h)
+front zero text n at = refl
+front (suc k) [] n at = refl
+front (suc k) (b ∷ text) n at = same_digit (is_digit b and ltb n (10 ^ 18)) _ _ (front k text (n * 10 + (b - 48)) (at + 1))
 
-module _ (s : List ℕ) (i n : ℕ) (h : i < length s) where
-  pub stops-below : (left : ℕ) → 0 < left → get_or s i 0 < 48 → more_digits left (drop i s) n i ≡ Nothing
+-- ---- a number n so far, the bytes of a text from the k-th on, and so many digits left to read
+
+pub all_read : (text : List ℕ) (left n at : ℕ) → left ≡ 0 → more_digits left text n at ≡ Some (n, at)
+unfolding more_digits
+all_read text left n at e = rw e
+
+module _ (text : List ℕ) (k n at left : ℕ) (h : k < length text) (p : 0 < left) where
+  pub no_digit : is_digit (get_or text k 0) ≡ false → more_digits left (drop k text) n at ≡ None
   unfolding more_digits
-  stops-below zero p l = absurd (omega arith)
-  stops-below (suc k) p l = rw (drop-cons s i 0 h, lt-leb 48 (get_or s i 0) l)
+  no_digit d =
+      let e : left ≡ suc (left - 1) = omega arith in
+      rw (e, drop-cons text k 0 h, d)
 
-  pub stops-above : (left : ℕ) → 0 < left → 48 ≤ get_or s i 0 → 57 < get_or s i 0 → more_digits left (drop i s) n i ≡ Nothing
-  unfolding more_digits
-  stops-above zero p l u = absurd (omega arith)
-  stops-above (suc k) p l u = rw (drop-cons s i 0 h, le-leb 48 (get_or s i 0) l, lt-leb (get_or s i 0) 57 u)
-
-  module _ (l : 48 ≤ get_or s i 0) (u : get_or s i 0 ≤ 57) where
-    pub too_long : (left : ℕ) → 0 < left → 10 ^ 18 ≤ n → more_digits left (drop i s) n i ≡ Nothing
+  module _ (d : is_digit (get_or text k 0) ≡ true) where
+    pub too_long : 10 ^ 18 ≤ n → more_digits left (drop k text) n at ≡ None
     unfolding more_digits
-    too_long zero p f = absurd (omega arith)
-    too_long (suc k) p f = rw (drop-cons s i 0 h, le-leb 48 (get_or s i 0) l, le-leb (get_or s i 0) 57 u, le-ltb n (10 ^ 18) f)
+    too_long f =
+        let e : left ≡ suc (left - 1) = omega arith in
+        rw (e, drop-cons text k 0 h, d, le-ltb n (10 ^ 18) f)
 
-    pub goes_on : (left : ℕ) → 0 < left → n < 10 ^ 18
-        → more_digits left (drop i s) n i ≡ more_digits (left - 1) (drop (i + 1) s) (n * 10 + (get_or s i 0 - 48)) (i + 1)
+    pub goes_on : n < 10 ^ 18 → more_digits left (drop k text) n at ≡ more_digits (left - 1) (drop (k + 1) text) (n * 10 + (get_or text k 0 - 48)) (at + 1)
     unfolding more_digits
-    goes_on zero p f = absurd (omega arith)
-    goes_on (suc k) p f =
-        let e : suc k - 1 ≡ k = omega arith in
-        rw (e, drop-cons s i 0 h, le-leb 48 (get_or s i 0) l, le-leb (get_or s i 0) 57 u, lt-ltb n (10 ^ 18) f, add-one i)
+    goes_on f =
+        let e : left ≡ suc (left - 1) = omega arith in
+        let g : suc (left - 1) - 1 ≡ left - 1 = omega arith in
+        rw (e, g, drop-cons text k 0 h, d, lt-ltb n (10 ^ 18) f, add-one k)

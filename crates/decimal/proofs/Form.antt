@@ -1,16 +1,15 @@
 -- What the text of a number looks like: a sign or none, digits without a spare zero, a point, and as many digits as there are to be.
-use Rattle.std.specs.Prelude.{◌≡◌, refl, Bool, true, false, List, [], ◌∷◌, ◌++◌, ℕ, zero, suc, ◌/◌, ◌%◌, ◌^◌, ◌<◌, ltb, ℤ, pos, negsuc, length, drop, get_or, ◌≤ℤ◌, ◌<ℤ◌}
+use Rattle.std.specs.Prelude.{Some, ◌≡◌, refl, Bool, true, false, List, [], ◌∷◌, ◌++◌, ℕ, zero, suc, ◌/◌, ◌%◌, ◌^◌, ◌<◌, ltb, ℤ, pos, negsuc, length, drop, get_or, ◌≤ℤ◌, ◌<ℤ◌}
 use Rattle.std.proofs.Math.Path.{sym, ap}
 use Rattle.std.proofs.Common.{◌∙◌, append-nil, append_assoc, arith, drop_of_length-le, SFits, le-leb}
 use Rattle.std.proofs.Math.Nat.{div-le_self}
 use Rattle.std.specs.Int.{w64}
 use Rattle.integers.specs.Parts.{integers}
 use Rattle.integers.specs.Tests.{joined}
-use Rattle.text.specs.declared.Unsigned.TheVariants as U
 use Rattle.text.specs.Places.{Stands}
 use Rattle.text.specs.Numbers.{ascii, digit, digits, decimal, last_digits}
 use Rattle.text.specs.Reading.{is_digit, decimal_in, decimal_at}
-use Rattle.text.proofs.DecimalBack.{ended, refuted}
+use Rattle.text.proofs.DecimalBack.{ended, parts, refuted}
 use Rattle.text.proofs.Back.{decimal-back}
 use Rattle.decimal.specs.Text.{fixed, fixed_text}
 use Rattle.decimal.proofs.Digits.{length-last_digits, one-at-least}
@@ -64,12 +63,11 @@ all_digits n = of-digits 20 n
 
 -- ---- a first digit of 0 is the only one
 
-only_zero : (text : List ℕ) (n end : ℕ) → decimal_in text 0 ≡ U.Number n end → get_or text 0 0 ≡ 48 → length text ≡ end → length text ≡ 1
+only_zero : (text : List ℕ) (n end : ℕ) → decimal_in text 0 ≡ Some (n, end) → get_or text 0 0 ≡ 48 → length text ≡ end → length text ≡ 1
 unfolding decimal_in
 only_zero [] n end e q l = refuted e
 only_zero (b ∷ text) n end e q l =
-    let z : U.Number 0 1 ≡ U.Number n end = rw q at e in
-    let y : 1 ≡ end = cc in
+    let (x, y) = parts {n = 0} {m = n} {at = 1} {end = end} (rw q at e) in
     l ∙ sym y
 
 no-spare : (n : ℕ) → n < 2 ^ 64 → get_or (decimal n) 0 0 ≡ digit 0 → length (decimal n) ≡ 1

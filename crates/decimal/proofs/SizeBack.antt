@@ -1,5 +1,5 @@
 -- A number without a sign, written with its decimals and read back, digit by digit: the lemmas of `Back`.
-use Rattle.std.specs.Prelude.{◌≡◌, Bool, true, false, cond, ltb, eqb}
+use Rattle.std.specs.Prelude.{Option, Some, None, ◌≡◌, Bool, true, false, cond, ltb, eqb}
 use Rattle.std.proofs.Math.Path.{refl, sym, ap}
 use Rattle.std.proofs.Common.{◌∙◌, subst, add-zero, div-one, arith, length-append, drop-drop, lt-ltb, le-leb, ltb-true, leb-true, eqb-true}
 use mathlib.Core.List.{List, [], ◌∷◌, ◌++◌, append_assoc}
@@ -8,12 +8,10 @@ use Rattle.std.proofs.Math.Nat.{div-le_self}
 use Rattle.std.proofs.Math.ListN.{length, drop}
 use Rattle.std.proofs.Math.Seq.{drop_at}
 use Rattle.integers.specs.Tests.{◌and◌, joined}
-use Rattle.text.specs.declared.Unsigned.{Unsigned}
-use Rattle.text.specs.declared.Unsigned.TheVariants as U
 use Rattle.text.specs.Places.{Stands}
 use Rattle.text.specs.Numbers.{digit, decimal, ascii, last_digits}
 use Rattle.text.specs.Reading.{is_digit, decimal_at}
-use Rattle.text.proofs.DecimalBack.{other, refuted}
+use Rattle.text.proofs.DecimalBack.{other, parts, refuted}
 use Rattle.text.proofs.Back.{decimal-back, decimal-only}
 use Rattle.decimal.specs.Text.{fixed}
 use Rattle.decimal.specs.Reading.{more_digits, after_whole, with_decimals, size_at}
@@ -47,7 +45,7 @@ one-digit k text n d at h l =
     rw (le-leb 48 (digit d) (omega arith), le-leb (digit d) 57 (omega arith), lt-ltb n (10 ^ 18) l, e)
 
 -- the last k digits of n, read after those before them, give n
-through : (k n : ℕ) (rest : List ℕ) (at : ℕ) → n < 10 ^ 19 → more_digits k (last_digits k n ++ rest) (n / 10 ^ k) at ≡ U.Number n (at + k)
+through : (k n : ℕ) (rest : List ℕ) (at : ℕ) → n < 10 ^ 19 → more_digits k (last_digits k n ++ rest) (n / 10 ^ k) at ≡ Some (n, at + k)
 unfolding more_digits
 through zero n rest at l = rw (div-one n, add-zero at)
 through (suc k) n rest at l =
@@ -59,7 +57,7 @@ through (suc k) n rest at l =
     ∙ one-digit k (last_digits k n ++ rest) (n / 10 ^ suc k) (m % 10) at (omega arith) (omega (arith, tenth k n))
     ∙ ap (λ i. more_digits k (last_digits k n ++ rest) i (at + 1)) v
     ∙ through k n rest (at + 1) l
-    ∙ ap (U.Number n) w
+    ∙ ap (λ k. Some (n, k)) w
 
 -- text begins with the last k digits of n, and those before them are m
 record Begins (text : List ℕ) (at m k n end : ℕ) : Type 0 where
@@ -69,9 +67,9 @@ record Begins (text : List ℕ) (at m k n end : ℕ) : Type 0 where
   front : n / 10 ^ k ≡ m
   fits : n < 2 ^ 64
 
-by-test : {text : List ℕ} {b at m k n end : ℕ} (t : Bool) → (is_digit b and ltb m (10 ^ 18)) ≡ t → (u : Unsigned)
-    → (m < 10 ^ 18 → u ≡ U.Number n end → b ≤ 57 → Begins text (at + 1) (m * 10 + (b - 48)) k n end)
-    → cond t u U.Nothing ≡ U.Number n end → Begins (b ∷ text) at m (suc k) n end
+by-test : {text : List ℕ} {b at m k n end : ℕ} (t : Bool) → (is_digit b and ltb m (10 ^ 18)) ≡ t → (u : Option (ℕ × ℕ))
+    → (m < 10 ^ 18 → u ≡ Some (n, end) → b ≤ 57 → Begins text (at + 1) (m * 10 + (b - 48)) k n end)
+    → cond t u None ≡ Some (n, end) → Begins (b ∷ text) at m (suc k) n end
 by-test {text} {b} {at} {m} {k} {n} {end} true t u ih e =
     let (d, v) = simp joined at t in
     let (l, h) = d in
@@ -89,11 +87,10 @@ by-test {text} {b} {at} {m} {k} {n} {end} true t u ih e =
     }
 by-test false t u ih e = refuted e
 
-only-more : (k : ℕ) (text : List ℕ) (at m n end : ℕ) → m < 2 ^ 64 → more_digits k text m at ≡ U.Number n end → Begins text at m k n end
+only-more : (k : ℕ) (text : List ℕ) (at m n end : ℕ) → m < 2 ^ 64 → more_digits k text m at ≡ Some (n, end) → Begins text at m k n end
 unfolding more_digits last_digits
 only-more zero text at m n end h e =
-    let x : m ≡ n = cc in
-    let y : at ≡ end = cc in
+    let (x, y) = parts e in
     record { rest = text; holds = refl; ends = omega arith; front = div-one n ∙ sym x; fits = omega arith }
 only-more (suc k) [] at m n end h e = refuted e
 only-more (suc k) (b ∷ text) at m n end h e =
@@ -113,7 +110,7 @@ unfolding after_whole
 after-point places text n at = refl
 
 module _ (places : ℕ) (s : List ℕ) (at n end : ℕ) where
-  pub size_back : n < 10 ^ 19 → Stands s at (fixed places n) end → size_at places s at ≡ U.Number n end
+  pub size_back : n < 10 ^ 19 → Stands s at (fixed places n) end → size_at places s at ≡ Some (n, end)
   unfolding size_at with_decimals
   size_back l p =
       let w = n / 10 ^ places in
@@ -126,15 +123,15 @@ module _ (places : ℕ) (s : List ℕ) (at n end : ℕ) where
       ∙ ap (λ t. after_whole places t w mid) q.holds
       ∙ after-point places (last_digits places n ++ drop end s) w mid
       ∙ through places n (drop end s) (mid + 1) l
-      ∙ ap (U.Number n) e
+      ∙ ap (λ k. Some (n, k)) e
 
   by-point : {b : ℕ} {text : List ℕ} {w : ℕ} (mid : ℕ) (t : Bool) → eqb b 46 ≡ t → w < 2 ^ 64
-      → cond t (more_digits places text w (mid + 1)) U.Nothing ≡ U.Number n end
+      → cond t (more_digits places text w (mid + 1)) None ≡ Some (n, end)
       → (b ≡ 46) × Begins text (mid + 1) w places n end
   by-point {b} {text} {w} mid true t f e = (eqb-true b 46 t, only-more places text (mid + 1) w n end f e)
   by-point mid false t f e = refuted e
 
-  from-point : (text : List ℕ) {w mid : ℕ} → drop mid s ≡ text → w < 2 ^ 64 → after_whole places text w mid ≡ U.Number n end
+  from-point : (text : List ℕ) {w mid : ℕ} → drop mid s ≡ text → w < 2 ^ 64 → after_whole places text w mid ≡ Some (n, end)
       → Stands s mid (46 ∷ last_digits places n) end × (n / 10 ^ places ≡ w) × (n < 2 ^ 64)
   unfolding after_whole
   from-point [] q f e = refuted e
@@ -147,14 +144,14 @@ module _ (places : ℕ) (s : List ℕ) (at n end : ℕ) where
       ap (λ i. drop i s) k ∙ sym (drop-drop (length word) mid s) ∙ ap (drop (length word)) h ∙ drop_at word g.rest (length word) refl in
       (record { ends = k; holds = h ∙ ap (λ t. word ++ t) (sym r) }, g.front, g.fits)
 
-  by_whole : (u : Unsigned) → decimal_at s at ≡ u → with_decimals places s u ≡ U.Number n end → Stands s at (fixed places n) end × (n < 2 ^ 64)
+  by_whole : (u : Option (ℕ × ℕ)) → decimal_at s at ≡ u → with_decimals places s u ≡ Some (n, end) → Stands s at (fixed places n) end × (n < 2 ^ 64)
   unfolding with_decimals
-  by_whole U.Nothing d e = refuted e
-  by_whole (U.Number w mid) d e =
+  by_whole None d e = refuted e
+  by_whole (Some (w, mid)) d e =
       let (a, f) = decimal-only s at w mid d in
       let (q, x, g) = from-point (drop mid s) refl f e in
       (rw (fixed-is places n, x) (together (decimal w) (46 ∷ last_digits places n) a q), g)
 
-  pub size-only : size_at places s at ≡ U.Number n end → Stands s at (fixed places n) end × (n < 2 ^ 64)
+  pub size-only : size_at places s at ≡ Some (n, end) → Stands s at (fixed places n) end × (n < 2 ^ 64)
   unfolding size_at
   size-only e = by_whole (decimal_at s at) refl e

@@ -1,4 +1,5 @@
 -- A text with decimals, written and read: with a sign or without, and at a point.
+use Rattle.std.specs.Prelude.{Some, None}
 use mathlib.Core.Path.{◌≡◌, refl}
 use mathlib.Core.Bool.{true, false}
 use mathlib.Core.List.{List, ◌∷◌}
@@ -11,8 +12,6 @@ use lib.Seq.{drop-cons}
 use lib.Signed.{lt_z}
 use borrow.Author.Tests.{ltb-true, ne_eqb}
 use Rattle.integers.specs.Tests.{clash}
-use Rattle.text.specs.declared.Unsigned.TheVariants as U
-use Rattle.text.specs.declared.Signed.TheVariants as S
 use Rattle.text.specs.Numbers.{ascii}
 use Rattle.text.specs.Reading.{decimal_at, decimal_in, below, not_below}
 use Rattle.decimal.specs.Text.{fixed, fixed_text}
@@ -33,11 +32,11 @@ positive-text places (negsuc n) e = clash refl e
 -- ---- read: a point, or none
 
 module _ (places : ℕ) (s : List ℕ) (at n : ℕ) where
-  pub no_byte : length s ≤ at → after_whole places (drop at s) n at ≡ U.Nothing
+  pub no_byte : length s ≤ at → after_whole places (drop at s) n at ≡ None
   unfolding after_whole
   no_byte h = rw (drop_of_length-le s h)
 
-  pub no-point : at < length s → (get_or s at 0 ≡ 46 → ⊥) → after_whole places (drop at s) n at ≡ U.Nothing
+  pub no-point : at < length s → (get_or s at 0 ≡ 46 → ⊥) → after_whole places (drop at s) n at ≡ None
   unfolding after_whole
   no-point h f = rw (drop-cons s at 0 h, ne_eqb (get_or s at 0) 46 f)
 
@@ -48,18 +47,18 @@ module _ (places : ℕ) (s : List ℕ) (at n : ℕ) where
 -- ---- read: a whole part, or none
 
 module _ (places : ℕ) (s : List ℕ) (at : ℕ) where
-  pub no_whole : decimal_at s at ≡ U.Nothing → size_at places s at ≡ U.Nothing
+  pub no_whole : decimal_at s at ≡ None → size_at places s at ≡ None
   unfolding size_at with_decimals
   no_whole e = rw e
 
-  pub a-whole : (n mid : ℕ) → decimal_at s at ≡ U.Number n mid → size_at places s at ≡ after_whole places (drop mid s) n mid
+  pub a-whole : (n mid : ℕ) → decimal_at s at ≡ Some (n, mid) → size_at places s at ≡ after_whole places (drop mid s) n mid
   unfolding size_at with_decimals
   a-whole n mid e = rw e
 
 -- ---- read: a sign, or none
 
 module _ (places : ℕ) (s : List ℕ) (at : ℕ) where
-  pub past_the_end : length s ≤ at → fixed_at places s at ≡ S.Nothing
+  pub past_the_end : length s ≤ at → fixed_at places s at ≡ None
   unfolding fixed_at size_at with_decimals decimal_at decimal_in not_below
   past_the_end h = rw (get_or-eq_default s 0 h, drop_of_length-le s h)
 

@@ -1,84 +1,52 @@
 // Numbers with a fixed count of decimals, read from a slice at a place.
-ghost use Rattle.std.specs.Prelude.{◌≡◌, ◌-◌, ◌≤◌, drop};
+ghost use Rattle.std.specs.Prelude.{◌≡◌, ◌≤◌, drop, length};
 ghost use Rattle.decimal.specs.Reading.{more_digits, after_whole, size_at, fixed_at};
 
-use text::{Signed, Unsigned, negative, positive, read_decimal};
-
-fn digit_of(b: u8) -> u64
-    requires { 48 ≤ b }
-    ensures { result ≡ b - 48 }
-{
-    (b - 48) as u64
-}
+use text::{negative, positive, read_decimal};
 
 // A number so far, and so many digits from a place on.
-fn read_digits(s: &[u8], from: usize, count: usize, first: u64) -> Unsigned
+fn read_digits(s: &[u8], from: usize, count: usize, first: u64) -> Option<(u64, usize)>
+    requires { from ≤ length s.now }
     ensures { result ≡ more_digits count (drop from s.now) first from }
 {
     let mut n = first;
-    let mut i = from;
-    let mut left = count;
-    while 0 < left {
-        if s.len() <= i {
-            return Unsigned::Nothing;
+    for b in s.get(from..)?.get(..count)? {
+        if !b.is_ascii_digit() || 999_999_999_999_999_999 < n {
+            return None;
         }
-        let b = s[i];
-        if b < 48 {
-            return Unsigned::Nothing;
-        }
-        if 57 < b {
-            return Unsigned::Nothing;
-        }
-        if 999_999_999_999_999_999 < n {
-            return Unsigned::Nothing;
-        }
-        n = n * 10 + digit_of(b);
-        i += 1;
-        left -= 1;
+        n = n * 10 + u64::from(*b - b'0');
     }
-    Unsigned::Number(n, i)
+    Some((n, from + count))
 }
 
 // A whole part, and from a place on a point and the decimals.
-fn read_decimals(s: &[u8], at: usize, places: usize, whole: u64) -> Unsigned
+fn read_decimals(s: &[u8], at: usize, places: usize, whole: u64) -> Option<(u64, usize)>
     ensures { result ≡ after_whole places (drop at s.now) whole at }
 {
-    if s.len() <= at {
-        return Unsigned::Nothing;
-    }
-    if s[at] != 46 {
-        return Unsigned::Nothing;
+    let b = *s.get(at)?;
+    if b != b'.' {
+        return None;
     }
     read_digits(s, at + 1, places, whole)
 }
 
 // A number without a sign.
-fn read_size(s: &[u8], at: usize, places: usize) -> Unsigned
+fn read_size(s: &[u8], at: usize, places: usize) -> Option<(u64, usize)>
     ensures { result ≡ size_at places s.now at }
 {
-    let whole = read_decimal(s, at);
-    match whole {
-        Unsigned::Number(n, next) => read_decimals(s, next, places, n),
-        Unsigned::Nothing => Unsigned::Nothing,
-    }
+    let (whole, next) = read_decimal(s, at)?;
+    read_decimals(s, next, places, whole)
 }
 
-pub fn read_fixed(s: &[u8], at: usize, places: usize) -> Signed
+pub fn read_fixed(s: &[u8], at: usize, places: usize) -> Option<(i64, usize)>
     ensures { result ≡ fixed_at places s.now at }
 {
-    if s.len() <= at {
-        return Signed::Nothing;
-    }
-    if s[at] == 45 {
-        let size = read_size(s, at + 1, places);
-        return match size {
-            Unsigned::Number(n, next) => negative(n, next),
-            Unsigned::Nothing => Signed::Nothing,
-        };
-    }
-    let size = read_size(s, at, places);
-    match size {
-        Unsigned::Number(n, next) => positive(n, next),
-        Unsigned::Nothing => Signed::Nothing,
+    let b = *s.get(at)?;
+    if b == b'-' {
+        let (n, next) = read_size(s, at + 1, places)?;
+        negative(n, next)
+    } else {
+        let (n, next) = read_size(s, at, places)?;
+        positive(n, next)
     }
 }

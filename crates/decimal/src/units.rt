@@ -11,21 +11,14 @@ use crate::Quotient;
 use exact::Exact;
 
 fn divide(a: i64, d: u64) -> Quotient
-    requires { 0 < d }
-    ensures { result ≡ quotient_of a d }
+    requires { (0 < d) × (d < 2 ^ 63) }
+    ensures value { result ≡ quotient_of a d }
+    ensures rest_below { result.rest < d }
 {
-    if a < 0 {
-        let n = (-1 - a) as u64;
-        Quotient {
-            whole: -1 - (n / d) as i64,
-            rest: d - 1 - n % d,
-        }
-    } else {
-        let n = a as u64;
-        Quotient {
-            whole: (n / d) as i64,
-            rest: n % d,
-        }
+    let by = d as i64;
+    Quotient {
+        whole: a.div_euclid(by),
+        rest: a.rem_euclid(by) as u64,
     }
 }
 

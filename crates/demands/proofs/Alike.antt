@@ -14,9 +14,7 @@ use Rattle.session.specs.Numbers.{most_points}
 use Rattle.session.specs.Moves.{present_point, predicted_point, point_in_range}
 use Rattle.session.specs.Holding.{settled}
 use Rattle.steps.specs.declared.ReportedPoint.{ReportedPoint}
-use Rattle.steps.specs.declared.Prediction.{Prediction}
-use Rattle.steps.specs.declared.Prediction.TheVariants as P
-use Rattle.steps.specs.Answers.{reported_point}
+use Rattle.steps.specs.Answers.{reported_point, Prediction}
 use Rattle.steps.specs.Refusals.{full, predict_refusal}
 use Rattle.steps.specs.Steps.{predict_by, predict_of}
 use Rattle.demands.specs.Histories.{ours, Call, after, history, entries, samples_of}
@@ -25,23 +23,24 @@ use Rattle.demands.specs.Demands.{SamePoint}
 use Rattle.session.proofs.Coordinates.{point-by}
 use Rattle.demands.proofs.Standing.{points-most, present-is, prediction-is}
 use Rattle.demands.proofs.Invariant.{invariant}
+use Rattle.std.specs.Prelude.{Ok, Err}
 
 -- a prediction that is answered is the record's
 clash : ◌≡◌ {A = ℕ} 0 1 → ⊥
 clash h = omega arith
 
-answered : (s : Session) (q : ReportedPoint) → (predict_of s).answer ≡ P.Predicted q → q ≡ reported_point (predicted_point s)
+answered : (s : Session) (q : ReportedPoint) → (predict_of s).answer ≡ Ok q → q ≡ reported_point (predicted_point s)
 unfolding predict_of
 answered s q e = go (predict_refusal s) e
   where
-    go : (n : ℕ) → (predict_by n s).answer ≡ P.Predicted q → q ≡ reported_point (predicted_point s)
+    go : (n : ℕ) → (predict_by n s).answer ≡ Ok q → q ≡ reported_point (predicted_point s)
     go zero e = cc
     go (suc n) e = absurd (clash (cc))
 
 -- where the number, and what it goes by, is the same, the answer is
 abbrev answer_by : ℕ → Point → Prediction
-answer_by zero q = P.Predicted (reported_point q)
-answer_by (suc n) q = P.Refused (suc n)
+answer_by zero q = Ok (reported_point q)
+answer_by (suc n) q = Err (suc n)
 
 answer-by : (n : ℕ) (s : Session) → (predict_by n s).answer ≡ answer_by n (predicted_point s)
 answer-by zero s = refl

@@ -26,12 +26,8 @@ use Rattle.session.proofs.Coordinates.{coordinates-iff}
 use Rattle.epoch_session.specs.declared.Round.{Round}
 use Rattle.epoch_session.specs.Rounds.{rounds_agree}
 use Rattle.epoch_session.specs.Records.{held_round, sums_zero, older_zero, axis_starts, axes_start, start_holds, is_starting, starting}
-use Rattle.steps.specs.declared.AfterPredict.{AfterPredict}
-use Rattle.steps.specs.declared.AfterCorrect.{AfterCorrect}
-use Rattle.steps.specs.declared.AfterWithdraw.{AfterWithdraw}
 use Rattle.steps.specs.Refusals.{sample_rules, point_rules, full, agrees, largest_change, is_last, predict_refusal, correct_refusal, withdraw_refusal}
 use Rattle.steps.specs.Steps.{predict_by, predict_of, judged, correct_by, correct_of, withdraw_by, withdraw_of}
-use Rattle.epoch_steps.specs.declared.AfterRound.{AfterRound}
 use Rattle.epoch_steps.specs.Refusals.{later_round, later_rules, refine_refusal}
 use Rattle.epoch_steps.specs.Steps.{judged_round, refine_by, refine_of}
 use Rattle.demands.specs.Records.{HeldSums, NoHeldSums}
@@ -41,6 +37,8 @@ use Rattle.demands.specs.Before.{bare, holds_before, start_holds_before, predict
 use Rattle.demands.proofs.Sums.{sums-from, no-sums-from}
 use Rattle.demands.proofs.Ours.{leave}
 use Rattle.demands.proofs.Held.{held_after}
+use Rattle.steps.specs.Answers.{AfterPredict, AfterCorrect, AfterWithdraw}
+use Rattle.epoch_steps.specs.Answers.{AfterRound}
 
 -- ---- the tests of a record
 

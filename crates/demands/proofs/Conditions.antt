@@ -13,8 +13,9 @@ use lib.Ieee.{Float, nan, inf, fin, up, down}
 use lib.Ieee.Nearest.{closest}
 use lib.ListN.{length}
 use Rattle.integers.specs.Tests.{not-true-iff}
-use Rattle.ticks.specs.declared.Rounded.{Rounded}
-use Rattle.ticks.specs.declared.Rounded.TheVariants as R
+use Rattle.std.specs.Prelude.{Result, Ok, Err}
+use Rattle.ticks.specs.declared.Fault.{Fault}
+use Rattle.ticks.specs.declared.Fault.TheVariants as F
 use Rattle.ticks.specs.Round.{limit, signed, rounded_of, is_not_a_number, is_infinite, is_too_large}
 use Rattle.ticks.specs.Samples.{any}
 use Rattle.axis.specs.declared.Tolerances.{Tolerances}
@@ -41,7 +42,7 @@ use Rattle.rules.proofs.Readings.{decides}
 
 -- ---- floats
 
-module _ (test : Rounded → Bool) (P : Float → Type 0) (h : (x : Float) → (test (rounded_of x) ≡ true) ↔ P x) where
+module _ (test : Result ℤ Fault → Bool) (P : Float → Type 0) (h : (x : Float) → (test (rounded_of x) ≡ true) ↔ P x) where
   any-to : (xs : List Float) → any test xs ≡ true → Some P xs
   unfolding any
   any-to [] e = false≢true e
@@ -65,7 +66,7 @@ module _ (test : Rounded → Bool) (P : Float → Type 0) (h : (x : Float) → (
   any-decides xs = decides (any-to xs, any-from xs)
 
 -- a finite float rounds to a tick or is too large: nothing else is said of it
-neither-said : (test : Rounded → Bool) (t : Bool) (n : ℤ) → test (R.Ticks n) ≡ false → test R.TooLarge ≡ false → (test (cond t (R.Ticks n) R.TooLarge) ≡ true) ↔ ⊥
+neither-said : (test : Result ℤ Fault → Bool) (t : Bool) (n : ℤ) → test (Ok n) ≡ false → test (Err F.TooLarge) ≡ false → (test (cond t (Ok n) (Err F.TooLarge)) ≡ true) ↔ ⊥
 neither-said test true n f g = ((λ e. false≢true (sym f ∙ e)), absurd)
 neither-said test false n f g = ((λ e. false≢true (sym g ∙ e)), absurd)
 
@@ -90,7 +91,7 @@ too_large (fin s m e) = by (leb n limit) refl
     n : ℕ
     n = closest (m * up e) (down e)
 
-    by : (t : Bool) → leb n limit ≡ t → (is_too_large (cond t (R.Ticks (signed s n)) R.TooLarge) ≡ true) ↔ (limit < n)
+    by : (t : Bool) → leb n limit ≡ t → (is_too_large (cond t (Ok (signed s n)) (Err F.TooLarge)) ≡ true) ↔ (limit < n)
     by true f = ((λ e. absurd (false≢true e)), (λ l. absurd (omega (arith, leb-true n limit f))))
     by false f = ((λ e. leb-false n limit f), (λ l. refl))
 

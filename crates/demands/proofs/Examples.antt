@@ -28,11 +28,8 @@ use Rattle.session.specs.Numbers.{points_hold, settings_hold}
 use Rattle.session.specs.Moves.{nowhere, present_point, estimate_of, predicted_point, corrected_point, point_in_range, settled_again, awaiting_at, accepted_at, opened_session, closed_session}
 use Rattle.session.specs.Apart.{points_agree, point_change}
 use Rattle.session.specs.Holding.{counts_hold, same_point, settled_holds, estimate_begins, awaiting_holds, holds, settled, awaiting}
-use Rattle.steps.specs.declared.Prediction.{Prediction}
-use Rattle.steps.specs.declared.Opening.TheVariants as O
-use Rattle.steps.specs.declared.Prediction.TheVariants as P
 use Rattle.steps.specs.declared.Correction.TheVariants as C
-use Rattle.steps.specs.Answers.{reported_motion, reported_point, reported_change, no_point, no_change, correction_answer}
+use Rattle.steps.specs.Answers.{reported_motion, reported_point, reported_change, no_point, no_change, correction_answer, Prediction}
 use Rattle.session.specs.Requests.{exact_point, Request}
 use Rattle.steps.specs.Opening.{axis_samples, opened_with}
 use Rattle.steps.specs.Refusals.{open_refusal, full, predict_refusal, agrees, largest_change, is_last, correct_refusal, withdraw_refusal}
@@ -43,6 +40,7 @@ use Rattle.demands.specs.Histories.{ours, Call, predict, correct, after, history
 use Rattle.demands.specs.ClosedForm.{opening_samples, origin, first_sum, second_before, position_at, next_position}
 use Rattle.demands.specs.Demands.{sample, second_difference, first_difference}
 use Rattle.demands.specs.BadVersions.{predicting_zero, repeating, inventing_corrections, ignoring_velocities, keeping}
+use Rattle.std.specs.Prelude.{Ok, Err}
 
 -- ---- the sessions
 
@@ -124,8 +122,8 @@ repeating_waits = after repeating (start wide) (predict ∷ round [])
 
 -- the whole ticks of a prediction's position on x
 abbrev pub predicted : Prediction → ℤ
-predicted (P.Predicted q) = q.x.position.exact.whole
-predicted (P.Refused n) = pos 0
+predicted (Ok q) = q.x.position.exact.whole
+predicted (Err n) = pos 0
 
 abbrev pub state_number : State → ℕ
 state_number Closed = 0
@@ -138,9 +136,9 @@ state_number Starting = 3
 pub record Computed : Type 0 where
   -- openings
   pub opens : open_refusal wide ≡ 0
-  pub opened : (ours.opens closed_session wide).answer ≡ O.Opened
-  pub narrowly : (ours.opens closed_session narrow).answer ≡ O.Opened
-  pub turningly : (ours.opens closed_session turning).answer ≡ O.Opened
+  pub opened : (ours.opens closed_session wide).answer ≡ Ok tt
+  pub narrowly : (ours.opens closed_session narrow).answer ≡ Ok tt
+  pub turningly : (ours.opens closed_session turning).answer ≡ Ok tt
   pub refused : open_refusal none ≡ 1
   pub samples : opening_samples wide on_x ≡ pos 12 ∷ []
   pub opening : (origin wide).position on_x ≡ pos (1000 * D)
@@ -152,7 +150,7 @@ pub record Computed : Type 0 where
   pub accepted0_narrow : (start narrow).accepted ≡ 0
   -- H3, H4: a prediction, and its withdrawal
   pub predicts : predict_refusal (start wide) ≡ 0
-  pub point1 : predicted (P.Predicted (reported_point (predicted_point (start wide)))) ≡ pos 1016
+  pub point1 : predicted (Ok (reported_point (predicted_point (start wide)))) ≡ pos 1016
   pub next1 : next_position (origin wide) on_x [] ≡ pos (1016 * D)
   pub waits : state_number (awaiting_at (start wide) 0 (predicted_point (start wide))).state ≡ 2
   pub withdraws : withdraw_refusal (waiting wide) ≡ 0
@@ -183,10 +181,10 @@ pub record Computed : Type 0 where
   pub first : first_difference (origin wide) on_x two 1 ≡ pos (18 * D)
   -- the bad versions there
   pub zero : predicted (predicting_zero.predicts (start wide)).answer ≡ pos 0
-  pub zero_told : (predicting_zero.predicts (start wide)).answer ≡ P.Predicted no_point
+  pub zero_told : (predicting_zero.predicts (start wide)).answer ≡ Ok no_point
   pub zero_position : position_in on_x no_point ≡ pos 0
   pub next : predict_refusal repeating_once ≡ 0
-  pub point2 : predicted (P.Predicted (reported_point (predicted_point repeating_once))) ≡ pos 1057
+  pub point2 : predicted (Ok (reported_point (predicted_point repeating_once))) ≡ pos 1057
   pub point1_again : predicted (repeating.predicts repeating_once).answer ≡ pos 1017
   pub repeated_points : length repeated ≡ 2
   pub repeated_second : second_difference (origin wide) on_x repeated 2 ≡ neg_ℤ (pos (17 * D))

@@ -18,13 +18,13 @@ use Rattle.axis.specs.Formulas.{ticks}
 use Rattle.session.specs.Coordinates.{Coordinate, ticks_on}
 use Rattle.session.specs.declared.Session.{Session}
 use Rattle.steps.specs.declared.ReportedPoint.{ReportedPoint}
-use Rattle.steps.specs.declared.Prediction.TheVariants as P
 use Rattle.steps.specs.declared.Correction.TheVariants as C
 use Rattle.demands.specs.Histories.{ours, Call, history, Event, predicting, correcting, withdrawing, refining, entries, samples_of}
 use Rattle.demands.specs.ClosedForm.{Origin, Begins, samples, first_sum, second_before, position_at, velocity_at, next_position, next_velocity, Carries, Tells, Told}
 use Rattle.demands.specs.Fractions.{◌⊖◌, first_in, before_in, corrected_position, corrected_velocity, predicted_position, predicted_velocity, Worth, TellsInTicks, ToldInTicks}
 use Rattle.demands.proofs.Standing.{points-most}
 use Rattle.demands.proofs.Ours.{formulas}
+use Rattle.std.specs.Prelude.{Ok, Err}
 
 -- ---- numerators over D
 
@@ -84,9 +84,9 @@ module _ (o : Origin) (h : o.points ≤ 9) where
   corrected ws q c = worth q (λ k. position_at o k ws) (λ k. velocity_at o k ws) _ _ c (λ k. corrected-position o h k ws) (λ k. corrected-velocity o h k ws)
 
   tells : (ws : List WholeSample) (e : Event) → Tells o ws e → TellsInTicks o ws e
-  tells ws (predicting (P.Predicted q)) t =
+  tells ws (predicting (Ok q)) t =
       worth q (λ k. next_position o k ws) (λ k. next_velocity o k ws) _ _ t (λ k. predicted-position o h k ws) (λ k. predicted-velocity o h k ws)
-  tells ws (predicting (P.Refused n)) t = tt
+  tells ws (predicting (Err n)) t = tt
   tells ws (correcting a (C.Accepted q)) t = corrected (whole_of a ∷ ws) q t
   tells ws (correcting a (C.Again q c)) t = corrected (whole_of a ∷ ws) q t
   tells ws (correcting a (C.Refused n)) t = tt

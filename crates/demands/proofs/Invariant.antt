@@ -20,9 +20,7 @@ use Rattle.session.specs.declared.State.TheVariants.{Settled, Awaiting}
 use Rattle.session.specs.Moves.{present_point, predicted_point, corrected_point, settled_again, awaiting_at, accepted_at, closed_session}
 use Rattle.session.specs.Holding.{is_settled, holds, settled}
 use Rattle.session.proofs.Rules.{resting, expecting}
-use Rattle.steps.specs.declared.Prediction.TheVariants as P
 use Rattle.steps.specs.declared.Correction.TheVariants as C
-use Rattle.steps.specs.declared.Withdrawal.TheVariants as W
 use Rattle.steps.specs.Answers.{reported_point}
 use Rattle.steps.specs.Refusals.{predict_refusal, agrees, correct_refusal, withdraw_refusal}
 use Rattle.steps.specs.Steps.{predict_by, predict_of, judged, correct_by, correct_of, withdraw_by, withdraw_of}
@@ -38,6 +36,7 @@ use Rattle.demands.proofs.Rounds.{not-starting, unrefined, unstarting}
 use Rattle.demands.proofs.Standing.{points-most, begun, settled-stands, awaiting-stands, accepted-stands, predicts, corrects}
 use Rattle.demands.proofs.Records.{open-record}
 use Rattle.demands.specs.Records.{OpenRecord}
+use Rattle.std.specs.Prelude.{Ok, Err}
 
 -- ---- an open record stays open
 
@@ -141,8 +140,8 @@ module _ (o : Origin) (small : o.points ≤ 9) (m n : ℕ) (s : Session) (es : L
   after-predict = go (predict_refusal s)
     where
       go : (r : ℕ) → Invariant o m n (predict_by r s).session (predicting (predict_by r s).answer ∷ es)
-      go zero = awaits 0 (predicted_point s) (predicting (P.Predicted (reported_point (predicted_point s)))) refl refl (predicts o ws s small i.stands)
-      go (suc r) = unmoved (predicting (P.Refused (suc r))) refl refl tt
+      go zero = awaits 0 (predicted_point s) (predicting (Ok (reported_point (predicted_point s)))) refl refl (predicts o ws s small i.stands)
+      go (suc r) = unmoved (predicting (Err (suc r))) refl refl tt
 
   after-correct : (a : Sample) → Invariant o m n (correct_of s a).session (correcting a (correct_of s a).answer ∷ es)
   unfolding correct_of
@@ -168,8 +167,8 @@ module _ (o : Origin) (small : o.points ≤ 9) (m n : ℕ) (s : Session) (es : L
   after-withdraw = go (withdraw_refusal s)
     where
       go : (r : ℕ) → Invariant o m n (withdraw_by r s).session (withdrawing (withdraw_by r s).answer ∷ es)
-      go zero = settles (withdrawing W.Withdrawn) refl tt
-      go (suc r) = unmoved (withdrawing (W.Refused (suc r))) refl refl tt
+      go zero = settles (withdrawing (Ok tt)) refl tt
+      go (suc r) = unmoved (withdrawing (Err (suc r))) refl refl tt
 
   -- a later round is refused, since the record is open
   after-refine : holds s ≡ true → (floats : List Float) → Invariant o m n (refine_of s floats).session (refining floats (refine_of s floats).answer ∷ es)

@@ -12,7 +12,6 @@ use Rattle.axis.specs.Formulas.{places, opened_axis}
 use Rattle.session.specs.declared.Session.{Session}
 use Rattle.session.specs.Moves.{present_point, opened_session}
 use Rattle.session.proofs.Present.{present-opened}
-use Rattle.steps.specs.declared.Opening.TheVariants as O
 use Rattle.steps.specs.Answers.{opening_answer}
 use Rattle.session.specs.Requests.{exact_point, Request}
 use Rattle.steps.specs.Opening.{opened_with}
@@ -26,6 +25,7 @@ use Rattle.demands.specs.Coordinates.{position_of, velocity_of}
 use Rattle.session.specs.Coordinates.{Coordinate, on_x, on_y, on_z, axis_of}
 use Rattle.demands.specs.ClosedForm.{Begins, place, opening_samples, origin}
 use Rattle.demands.proofs.Records.{settled-record}
+use Rattle.std.specs.Prelude.{Ok}
 
 module _ (r : Request) where
   abbrev session : Session
@@ -35,7 +35,7 @@ module _ (r : Request) where
   pub number_is : (opening_answer (open_of r).answer).number ≡ open_refusal r
   number_is = ap (λ a. a.number) (open-answers r)
 
-  module _ (e : (open_of r).answer ≡ O.Opened) where
+  module _ (e : (open_of r).answer ≡ Ok tt) where
     not-refused : open_refusal r ≡ 0
     not-refused = sym number_is ∙ ap (λ a. (opening_answer a).number) e
 

@@ -25,7 +25,6 @@ use Rattle.session.specs.declared.Session.{Session}
 use Rattle.session.specs.Numbers.{points_hold, settings_hold}
 use Rattle.session.specs.Moves.{nowhere, estimate_of, point_in_range, closed_session}
 use Rattle.session.specs.Apart.{points_agree, point_change}
-use Rattle.steps.specs.declared.Opening.TheVariants as O
 use Rattle.steps.specs.Answers.{reported_motion, reported_point, reported_change, no_point, no_change}
 use Rattle.session.specs.Requests.{exact_point, Request}
 use Rattle.steps.specs.Opening.{axis_samples}
@@ -43,6 +42,7 @@ use Rattle.session.specs.Coordinates.{on_x}
 use Rattle.demands.specs.Histories.{ours, Call, refine, after, history, mores}
 use Rattle.demands.specs.BadVersions.{opening_at_once, opening_anyhow, never_counting, ignoring_velocities_of_rounds, keeping_starts}
 use Rattle.demands.proofs.Examples.{state_number}
+use Rattle.std.specs.Prelude.{Ok}
 
 -- ---- the session
 
@@ -108,7 +108,7 @@ pub record Computed : Type 0 where
   pub second : refine_refusal begun [] ≡ 2
   -- nothing moved there, and the point where it opens is whole
   pub agreed : rounds_agree begun.tolerances (later_round begun (force (pos 12))) (held_round begun) ≡ true
-  pub opened : (ours.opens closed_session newest).answer ≡ O.Opened
+  pub opened : (ours.opens closed_session newest).answer ≡ Ok tt
   pub point0 : earlier_point (later_round begun (force (pos 12))) 0 ≡ exact_point newest.point
   pub points : begun.points ≡ 3
   pub tolerances : begun.tolerances ≡ strict

@@ -9,9 +9,7 @@ use Rattle.ticks.specs.declared.WholeSample.{WholeSample}
 use Rattle.ticks.specs.Samples.{whole_of}
 use Rattle.session.specs.declared.Session.{Session}
 use Rattle.session.specs.Moves.{present_point, closed_session}
-use Rattle.steps.specs.declared.Prediction.{Prediction}
-use Rattle.steps.specs.declared.Prediction.TheVariants as P
-use Rattle.steps.specs.Answers.{no_point, reported_point, prediction_answer, correction_answer}
+use Rattle.steps.specs.Answers.{no_point, reported_point, prediction_answer, correction_answer, Prediction}
 use Rattle.steps.specs.Steps.{predict_of}
 use Rattle.session.specs.Coordinates.{on_x}
 use Rattle.demands.specs.Histories.{Call, predict, correct, withdraw, refine, predicting, correcting, after, history, entries, samples_of}
@@ -30,6 +28,7 @@ use Rattle.demands.proofs.Conditions.{agreement}
 use Rattle.demands.proofs.Tables.{correct-first}
 use Rattle.rules.proofs.Readings.{one-exactly}
 use Rattle.steps.specs.Refusals.{correct_refusal}
+use Rattle.std.specs.Prelude.{Ok, Err}
 
 clash : ◌≡◌ {A = ℕ} 0 1 → ⊥
 clash h = omega arith
@@ -138,8 +137,8 @@ refusing3 =
     }
 
 zeroed-number : (r : Prediction) → (prediction_answer (zeroed r)).number ≡ (prediction_answer r).number
-zeroed-number (P.Predicted q) = refl
-zeroed-number (P.Refused n) = refl
+zeroed-number (Ok q) = refl
+zeroed-number (Err n) = refl
 
 predicting_zero1 : Demand1 predicting_zero
 predicting_zero1 =

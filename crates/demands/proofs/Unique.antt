@@ -15,16 +15,10 @@ use Rattle.session.specs.Moves.{corrected_point, settled_again, closed_session}
 use Rattle.epoch_session.specs.Rounds.{rounds_agree}
 use Rattle.epoch_session.specs.Records.{held_round}
 use Rattle.steps.specs.declared.ReportedPoint.{ReportedPoint}
-use Rattle.steps.specs.declared.Opening.{Opening}
-use Rattle.steps.specs.declared.Prediction.{Prediction}
 use Rattle.steps.specs.declared.Correction.{Correction}
-use Rattle.steps.specs.declared.Withdrawal.{Withdrawal}
-use Rattle.steps.specs.declared.Opening.TheVariants as O
-use Rattle.steps.specs.declared.Prediction.TheVariants as P
 use Rattle.steps.specs.declared.Correction.TheVariants as C
-use Rattle.steps.specs.declared.Withdrawal.TheVariants as W
 use Rattle.rules.specs.Rules.{NotZero, Unrefused}
-use Rattle.steps.specs.Answers.{opening_answer, prediction_answer, correction_answer, withdrawal_answer}
+use Rattle.steps.specs.Answers.{opening_answer, prediction_answer, correction_answer, withdrawal_answer, Opening, Prediction, Withdrawal}
 use Rattle.steps.specs.Refusals.{predict_refusal, agrees, correct_refusal, withdraw_refusal, open_refusal}
 use Rattle.epoch_steps.specs.declared.Outcome.{Outcome}
 use Rattle.epoch_steps.specs.declared.RoundAnswer.{RoundAnswer}
@@ -41,25 +35,26 @@ use Rattle.demands.proofs.Tables.{open-first, predict-first, correct-first, with
 use Rattle.demands.proofs.Ours.{open_none, predict-none, correct-none, withdraw-none, start_none, refine-none}
 use Rattle.rules.proofs.Readings.{one-first, one-exactly}
 use Rattle.demands.specs.Theorems.{Replaces}
+use Rattle.std.specs.Prelude.{Ok, Err}
 
 -- ---- a refusal's number is its answer
 
-opening-refused : (a : Opening) (n : ℕ) → (opening_answer a).number ≡ suc n → a ≡ O.Refused (suc n)
-opening-refused O.Opened n e = absurd (omega arith)
-opening-refused (O.Refused m) n e = ap O.Refused e
+opening-refused : (a : Opening) (n : ℕ) → (opening_answer a).number ≡ suc n → a ≡ Err (suc n)
+opening-refused (Ok _) n e = absurd (omega arith)
+opening-refused (Err m) n e = ap Err e
 
-prediction-refused : (a : Prediction) (n : ℕ) → (prediction_answer a).number ≡ suc n → a ≡ P.Refused (suc n)
-prediction-refused (P.Predicted q) n e = absurd (omega arith)
-prediction-refused (P.Refused m) n e = ap P.Refused e
+prediction-refused : (a : Prediction) (n : ℕ) → (prediction_answer a).number ≡ suc n → a ≡ Err (suc n)
+prediction-refused (Ok q) n e = absurd (omega arith)
+prediction-refused (Err m) n e = ap Err e
 
 correction-refused : (a : Correction) (n : ℕ) → (correction_answer a).number ≡ suc n → a ≡ C.Refused (suc n)
 correction-refused (C.Accepted q) n e = absurd (omega arith)
 correction-refused (C.Again q c) n e = absurd (omega arith)
 correction-refused (C.Refused m) n e = ap C.Refused e
 
-withdrawal-refused : (a : Withdrawal) (n : ℕ) → (withdrawal_answer a).number ≡ suc n → a ≡ W.Refused (suc n)
-withdrawal-refused W.Withdrawn n e = absurd (omega arith)
-withdrawal-refused (W.Refused m) n e = ap W.Refused e
+withdrawal-refused : (a : Withdrawal) (n : ℕ) → (withdrawal_answer a).number ≡ suc n → a ≡ Err (suc n)
+withdrawal-refused (Ok _) n e = absurd (omega arith)
+withdrawal-refused (Err m) n e = ap Err e
 
 -- a refused round's answer is its number, and has no points
 outcome-refused : (a : Outcome) (ps : List ReportedPoint) (n : ℕ) → (outcome_values a ps).number ≡ suc n → a ≡ R.Refused (suc n)
@@ -96,17 +91,17 @@ module _ (I : Implementation) (d : Demand1 I) where
   later-round-number s floats = one-exactly (refine_table s floats) (refine_number I s floats) (refine_refusal s floats) (refine-first s floats) (d.refines s floats)
 
   -- what a refusal of the table's number n + 1 leaves and answers
-  refused-opening : (s : Session) (r : Request) (n : ℕ) → open_refusal r ≡ suc n → I.opens s r ≡ record { session = closed_session; answer = O.Refused (suc n) }
+  refused-opening : (s : Session) (r : Request) (n : ℕ) → open_refusal r ≡ suc n → I.opens s r ≡ record { session = closed_session; answer = Err (suc n) }
   refused-opening s r n h =
       let m = opening-number s r ∙ h in
       λ i. record { session = d.closed s r (given m) i; answer = opening-refused (I.opens s r).answer n m i }
 
-  refused-prediction : (s : Session) (n : ℕ) → predict_refusal s ≡ suc n → I.predicts s ≡ record { session = s; answer = P.Refused (suc n) }
+  refused-prediction : (s : Session) (n : ℕ) → predict_refusal s ≡ suc n → I.predicts s ≡ record { session = s; answer = Err (suc n) }
   refused-prediction s n h =
       let m = prediction-number s ∙ h in
       λ i. record { session = d.unpredicted s (given m) i; answer = prediction-refused (I.predicts s).answer n m i }
 
-  refused-withdrawal : (s : Session) (n : ℕ) → withdraw_refusal s ≡ suc n → I.withdraws s ≡ record { session = s; answer = W.Refused (suc n) }
+  refused-withdrawal : (s : Session) (n : ℕ) → withdraw_refusal s ≡ suc n → I.withdraws s ≡ record { session = s; answer = Err (suc n) }
   refused-withdrawal s n h =
       let m = withdrawal-number s ∙ h in
       λ i. record { session = d.unwithdrawn s (given m) i; answer = withdrawal-refused (I.withdraws s).answer n m i }

@@ -1,5 +1,5 @@
 -- The bad versions that inspection is to turn down, each as an implementation of the six calls. Definitions only.
-use Rattle.std.specs.Prelude.{ℕ, zero, suc, ◌+◌, Bool, true, false, cond, List, eqb, Float}
+use Rattle.std.specs.Prelude.{ℕ, zero, suc, ◌+◌, Bool, true, false, cond, List, eqb, Float, Ok, Err}
 use Rattle.ticks.specs.declared.Sample.{Sample}
 use Rattle.ticks.specs.Samples.{whole_of}
 use Rattle.axis.specs.declared.Tolerances.{Tolerances}
@@ -8,43 +8,37 @@ use Rattle.session.specs.declared.Point.{Point}
 use Rattle.session.specs.declared.Session.{Session}
 use Rattle.session.specs.declared.State.TheVariants.{Settled}
 use Rattle.session.specs.Moves.{present_point, corrected_point, estimate_of, became, settled_again, accepted_at, closed_session}
-use Rattle.steps.specs.declared.AfterCorrect.{AfterCorrect}
-use Rattle.steps.specs.declared.Prediction.{Prediction}
 use Rattle.steps.specs.declared.Correction.{Correction}
-use Rattle.steps.specs.declared.Opening.TheVariants as O
-use Rattle.steps.specs.declared.Prediction.TheVariants as P
 use Rattle.steps.specs.declared.Correction.TheVariants as C
-use Rattle.steps.specs.declared.Withdrawal.TheVariants as W
-use Rattle.steps.specs.Answers.{no_point, reported_point}
+use Rattle.steps.specs.Answers.{no_point, reported_point, Opening, Prediction, AfterCorrect}
 use Rattle.steps.specs.Steps.{predict_of, correct_of, withdraw_of, open_of}
 use Rattle.session.specs.Requests.{Request}
 use Rattle.epoch_session.specs.Rounds.{earlier_point, every_below}
 use Rattle.epoch_session.specs.Records.{held_round, opened_round}
-use Rattle.epoch_steps.specs.declared.AfterRound.{AfterRound}
 use Rattle.epoch_steps.specs.declared.Outcome.{Outcome}
 use Rattle.epoch_steps.specs.declared.Outcome.TheVariants as R
 use Rattle.epoch_steps.specs.Refusals.{first_round, later_round}
 use Rattle.epoch_steps.specs.Steps.{told, refused, refine_of, start_of}
 use Rattle.demands.specs.Histories.{Implementation, ours}
 use Rattle.integers.specs.Tests.{◌and◌}
-use Rattle.steps.specs.declared.Opening.{Opening}
+use Rattle.epoch_steps.specs.Answers.{AfterRound}
 
 -- refuses everything
 abbrev pub refusing : Implementation
 refusing =
     record {
-      opens = λ s r. record { session = closed_session; answer = O.Refused 1 };
-      predicts = λ s. record { session = s; answer = P.Refused 7 };
+      opens = λ s r. record { session = closed_session; answer = Err 1 };
+      predicts = λ s. record { session = s; answer = Err 7 };
       corrects = λ s a. record { session = s; answer = C.Refused 7 };
-      withdraws = λ s. record { session = s; answer = W.Refused 7 };
+      withdraws = λ s. record { session = s; answer = Err 7 };
       starts = λ s r. record { session = closed_session; answer = refused 1 };
       refines = λ s floats. record { session = s; answer = refused 7 };
     }
 
 -- always predicts zero
 abbrev pub zeroed : Prediction → Prediction
-zeroed (P.Predicted q) = P.Predicted no_point
-zeroed (P.Refused n) = P.Refused n
+zeroed (Ok q) = Ok no_point
+zeroed (Err n) = Err n
 
 abbrev pub predicting_zero : Implementation
 predicting_zero =
@@ -72,8 +66,8 @@ unmoving =
 -- steps truly once and then repeats: from the first accepted point on it answers with that point
 abbrev pub same_prediction : ℕ → Session → Prediction → Prediction
 same_prediction zero s r = r
-same_prediction (suc n) s (P.Predicted q) = P.Predicted (reported_point (present_point s))
-same_prediction (suc n) s (P.Refused m) = P.Refused m
+same_prediction (suc n) s (Ok q) = Ok (reported_point (present_point s))
+same_prediction (suc n) s (Err m) = Err m
 
 abbrev pub stayed : Session → Session
 stayed s = let t = settled_again s in became t Settled (t.accepted + 1) 0 t.x t.y t.z
@@ -224,8 +218,8 @@ ignoring_velocities_of_rounds =
 
 -- keeps the record that was there where it refuses an open
 abbrev pub kept_by : Opening → Session → Session → Session
-kept_by O.Opened s t = t
-kept_by (O.Refused n) s t = s
+kept_by (Ok _) s t = t
+kept_by (Err n) s t = s
 
 abbrev pub keeping : Implementation
 keeping =

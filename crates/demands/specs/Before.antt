@@ -15,17 +15,14 @@ use Rattle.session.specs.Moves.{became, present_point, estimate_of, predicted_po
 use Rattle.session.specs.Holding.{every_axis, counts_hold, state_holds, is_settled, is_awaiting}
 use Rattle.session.specs.Requests.{Request}
 use Rattle.epoch_session.specs.Records.{axes_start, is_starting}
-use Rattle.steps.specs.declared.AfterOpen.{AfterOpen}
-use Rattle.steps.specs.declared.AfterPredict.{AfterPredict}
-use Rattle.steps.specs.declared.AfterCorrect.{AfterCorrect}
-use Rattle.steps.specs.declared.AfterWithdraw.{AfterWithdraw}
 use Rattle.steps.specs.Refusals.{full, sample_rules, point_rules}
 use Rattle.steps.specs.Steps.{open_of, predict_by, correct_by, withdraw_by}
-use Rattle.epoch_steps.specs.declared.AfterRound.{AfterRound}
 use Rattle.epoch_steps.specs.Refusals.{later_round, later_rules}
 use Rattle.epoch_steps.specs.Steps.{start_of, refine_by}
 use Rattle.demands.specs.Histories.{Implementation, Call, step, event, history, Act, lived}
 use Rattle.demands.specs.Held.{HeldTrue}
+use Rattle.steps.specs.Answers.{AfterOpen, AfterPredict, AfterCorrect, AfterWithdraw}
+use Rattle.epoch_steps.specs.Answers.{AfterRound}
 
 -- ---- the record without its held sums
 

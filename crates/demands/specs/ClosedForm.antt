@@ -1,6 +1,6 @@
 -- Where a session begins, and what its record holds and its answers tell after any accepted samples: a function of the two alone.
 -- Positions, velocities and sums are numerators over D; lists of samples have the latest first. Definitions only.
-use Rattle.std.specs.Prelude.{◌≡◌, List, [], ◌∷◌, ℕ, ◌<◌, ℤ, ◌+ℤ◌, ◌-ℤ◌, Float}
+use Rattle.std.specs.Prelude.{◌≡◌, List, [], ◌∷◌, ℕ, ◌<◌, ℤ, ◌+ℤ◌, ◌-ℤ◌, Float, Ok, Err}
 use Rattle.integers.specs.Differences.{at, in_front, by_differences}
 use Rattle.coefficients.specs.Formulas.{position_predictor, position_corrector, velocity_predictor, velocity_corrector}
 use Rattle.ticks.specs.declared.WholeSample.{WholeSample}
@@ -10,7 +10,6 @@ use Rattle.session.specs.declared.Session.{Session}
 use Rattle.session.specs.declared.Point.{Point}
 use Rattle.session.specs.Moves.{present_point}
 use Rattle.steps.specs.declared.ReportedPoint.{ReportedPoint}
-use Rattle.steps.specs.declared.Prediction.TheVariants as P
 use Rattle.steps.specs.declared.Correction.TheVariants as C
 use Rattle.session.specs.Requests.{exact_point, Request}
 use Rattle.steps.specs.Opening.{axis_samples}
@@ -115,8 +114,8 @@ abbrev pub Corrects : Origin → List WholeSample → ReportedPoint → Type 0
 Corrects o ws q = Carries q (λ k. position_at o k ws) (λ k. velocity_at o k ws)
 
 abbrev pub Tells : Origin → List WholeSample → Event → Type 0
-Tells o ws (predicting (P.Predicted q)) = Predicts o ws q
-Tells o ws (predicting (P.Refused n)) = Unit {0}
+Tells o ws (predicting (Ok q)) = Predicts o ws q
+Tells o ws (predicting (Err n)) = Unit {0}
 Tells o ws (correcting a (C.Accepted q)) = Corrects o (whole_of a ∷ ws) q
 Tells o ws (correcting a (C.Again q c)) = Corrects o (whole_of a ∷ ws) q
 Tells o ws (correcting a (C.Refused n)) = Unit {0}

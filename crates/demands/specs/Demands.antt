@@ -1,5 +1,5 @@
 -- The three demands of the order, and the counts, of any implementation of the six calls. Definitions only.
-use Rattle.std.specs.Prelude.{◌≡◌, ◌⊎◌, List, [], ◌∷◌, ℕ, ◌+◌, ◌-◌, ◌≤◌, ℤ, pos, ◌+ℤ◌, ◌-ℤ◌, ◌*ℤ◌, Float, length}
+use Rattle.std.specs.Prelude.{◌≡◌, ◌⊎◌, List, [], ◌∷◌, ℕ, ◌+◌, ◌-◌, ◌≤◌, ℤ, pos, ◌+ℤ◌, ◌-ℤ◌, ◌*ℤ◌, Float, length, Ok}
 use Rattle.integers.specs.Differences.{in_front, by_differences}
 use Rattle.exact.specs.Numerator.{D}
 use Rattle.coefficients.specs.Fraction.{◌≐◌, ◌over◌}
@@ -11,10 +11,7 @@ use Rattle.session.specs.declared.Session.{Session}
 use Rattle.session.specs.declared.State.TheVariants.{Settled, Awaiting}
 use Rattle.session.specs.Moves.{present_point, predicted_point, corrected_point, estimate_of, settled_again, awaiting_at, accepted_at, closed_session}
 use Rattle.steps.specs.declared.ReportedPoint.{ReportedPoint}
-use Rattle.steps.specs.declared.Opening.TheVariants as O
-use Rattle.steps.specs.declared.Prediction.TheVariants as P
 use Rattle.steps.specs.declared.Correction.TheVariants as C
-use Rattle.steps.specs.declared.Withdrawal.TheVariants as W
 use Rattle.rules.specs.Rules.{NotZero, Exactly, First, Unrefused}
 use Rattle.steps.specs.Answers.{reported_point, reported_change, no_change, opening_answer, prediction_answer, correction_answer, withdrawal_answer}
 use Rattle.session.specs.Requests.{exact_point, Request}
@@ -82,10 +79,10 @@ pub record Demand1 (I : Implementation) : Type 0 where
 pub record Demand2 (I : Implementation) : Type 0 where
   -- the record asked for, and an answer without values
   pub opens : (s : Session) (r : Request) → Unrefused (open_table r) →
-      I.opens s r ≡ record { session = opened_with r.points r.tolerances r.limit (exact_point r.point) r.floats; answer = O.Opened }
+      I.opens s r ≡ record { session = opened_with r.points r.tolerances r.limit (exact_point r.point) r.floats; answer = Ok tt }
   -- the predicted point, which the record awaits
   pub predicts : (s : Session) → Unrefused (predict_table s) →
-      I.predicts s ≡ record { session = awaiting_at s 0 (predicted_point s); answer = P.Predicted (reported_point (predicted_point s)) }
+      I.predicts s ≡ record { session = awaiting_at s 0 (predicted_point s); answer = Ok (reported_point (predicted_point s)) }
   -- the corrected point: accepted where all six changes are within their own tolerance
   pub accepts : (s : Session) (a : Sample) → Unrefused (correct_table s a) → Within s (corrected_point s (whole_of a)) →
       I.corrects s a ≡ record { session = accepted_at s (whole_of a); answer = C.Accepted (reported_point (corrected_point s (whole_of a))) }
@@ -94,7 +91,7 @@ pub record Demand2 (I : Implementation) : Type 0 where
       let q = corrected_point s (whole_of a) in
       I.corrects s a ≡ record { session = awaiting_at s (s.corrections + 1) q; answer = C.Again (reported_point q) (reported_change (largest_change s q)) }
   -- the record without its estimate
-  pub withdraws : (s : Session) → Unrefused (withdraw_table s) → I.withdraws s ≡ record { session = settled_again s; answer = W.Withdrawn }
+  pub withdraws : (s : Session) → Unrefused (withdraw_table s) → I.withdraws s ≡ record { session = settled_again s; answer = Ok tt }
   -- a first round asks for more, with no change: its points, and the record that holds its samples and the epoch
   pub starts : (s : Session) (r : Request) → Unrefused (start_table r) →
       let round = first_round r in
@@ -158,11 +155,11 @@ pub record UnsummedInTicks (o : Origin) (es : List Entry) : Type 0 where
 -- both are at one exact point, and where both predict the next one, they predict the same
 pub record SamePoint (I : Implementation) (s t : Session) : Type 0 where
   pub present : present_point s ≡ present_point t
-  pub next : (q r : ReportedPoint) → (I.predicts s).answer ≡ P.Predicted q → (I.predicts t).answer ≡ P.Predicted r → q ≡ r
+  pub next : (q r : ReportedPoint) → (I.predicts s).answer ≡ Ok q → (I.predicts t).answer ≡ Ok r → q ≡ r
 
 pub record Demand3 (I : Implementation) : Type 0 where
   -- a successful open leaves a record that begins where it was asked to
-  pub begins : (s : Session) (r : Request) → (I.opens s r).answer ≡ O.Opened → Begins (origin r) (I.opens s r).session
+  pub begins : (s : Session) (r : Request) → (I.opens s r).answer ≡ Ok tt → Begins (origin r) (I.opens s r).session
   -- so does a later round that opens: at its newest point, with its samples
   pub started : (s : Session) (floats : List Float) → (I.refines s floats).answer.outcome ≡ R.Opened → Begins (start_origin s floats) (I.refines s floats).session
   -- however the record began, and whatever was called since
@@ -175,7 +172,7 @@ pub record Demand3 (I : Implementation) : Type 0 where
 
 pub record Counts (I : Implementation) : Type 0 where
   -- both begin at 0
-  pub opened : (s : Session) (r : Request) → (I.opens s r).answer ≡ O.Opened → ((I.opens s r).session.accepted ≡ 0) × ((I.opens s r).session.corrections ≡ 0)
+  pub opened : (s : Session) (r : Request) → (I.opens s r).answer ≡ Ok tt → ((I.opens s r).session.accepted ≡ 0) × ((I.opens s r).session.corrections ≡ 0)
   pub opened_round : (s : Session) (floats : List Float) → (I.refines s floats).answer.outcome ≡ R.Opened →
       ((I.refines s floats).session.accepted ≡ 0) × ((I.refines s floats).session.corrections ≡ 0)
   -- while a session is starting: the later rounds that asked for more

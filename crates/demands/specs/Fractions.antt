@@ -1,6 +1,6 @@
 -- Demand 2 in fractions of a tick: each prediction and correction that was answered, accepted points among them, is what the stepping formulas give for the
 -- rounded samples, with the coefficients of the rules; and each point of a round is what the series at its place give. Definitions only.
-use Rattle.std.specs.Prelude.{◌≡◌, List, [], ◌∷◌, ℕ, suc, ◌-◌, ◌/◌, ◌<◌, ℤ, Float, get_or}
+use Rattle.std.specs.Prelude.{◌≡◌, List, [], ◌∷◌, ℕ, suc, ◌-◌, ◌/◌, ◌<◌, ℤ, Float, get_or, Ok, Err}
 use Rattle.integers.specs.Differences.{at}
 use Rattle.exact.specs.Numerator.{D}
 use Rattle.coefficients.specs.Fraction.{Fraction, ◌over◌, ◌⊕◌, ◌≐◌, negate}
@@ -15,7 +15,6 @@ use Rattle.session.specs.Coordinates.{Coordinate, ticks_on}
 use Rattle.session.specs.Moves.{estimate_of}
 use Rattle.session.specs.Requests.{exact_point, Request}
 use Rattle.steps.specs.declared.ReportedPoint.{ReportedPoint}
-use Rattle.steps.specs.declared.Prediction.TheVariants as P
 use Rattle.steps.specs.declared.Correction.TheVariants as C
 use Rattle.steps.specs.Answers.{no_point}
 use Rattle.steps.specs.Opening.{axis_samples}
@@ -70,8 +69,8 @@ abbrev pub WorthCorrected : Origin → List WholeSample → ReportedPoint → Ty
 WorthCorrected o ws q = Worth q (λ k. corrected_position o k ws) (λ k. corrected_velocity o k ws)
 
 abbrev pub TellsInTicks : Origin → List WholeSample → Event → Type 0
-TellsInTicks o ws (predicting (P.Predicted q)) = WorthPredicted o ws q
-TellsInTicks o ws (predicting (P.Refused n)) = Unit {0}
+TellsInTicks o ws (predicting (Ok q)) = WorthPredicted o ws q
+TellsInTicks o ws (predicting (Err n)) = Unit {0}
 TellsInTicks o ws (correcting a (C.Accepted q)) = WorthCorrected o (whole_of a ∷ ws) q
 TellsInTicks o ws (correcting a (C.Again q c)) = WorthCorrected o (whole_of a ∷ ws) q
 TellsInTicks o ws (correcting a (C.Refused n)) = Unit {0}

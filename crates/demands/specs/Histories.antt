@@ -1,27 +1,21 @@
 -- Implementations, calls, and what calls on a record bring about: the record afterwards, the answers, and the points that were accepted.
 -- Lists of calls, of events and of points have the latest first. Definitions only.
-use Rattle.std.specs.Prelude.{ℕ, suc, List, [], ◌∷◌, map, Float}
+use Rattle.std.specs.Prelude.{ℕ, suc, List, [], ◌∷◌, map, Float, Ok, Err}
 use Rattle.ticks.specs.declared.Sample.{Sample}
 use Rattle.ticks.specs.declared.WholeSample.{WholeSample}
 use Rattle.ticks.specs.Samples.{whole_of}
 use Rattle.session.specs.declared.Session.{Session}
 use Rattle.session.specs.Requests.{Request}
 use Rattle.steps.specs.declared.ReportedPoint.{ReportedPoint}
-use Rattle.steps.specs.declared.AfterOpen.{AfterOpen}
-use Rattle.steps.specs.declared.AfterPredict.{AfterPredict}
-use Rattle.steps.specs.declared.AfterCorrect.{AfterCorrect}
-use Rattle.steps.specs.declared.AfterWithdraw.{AfterWithdraw}
-use Rattle.steps.specs.declared.Prediction.{Prediction}
 use Rattle.steps.specs.declared.Correction.{Correction}
-use Rattle.steps.specs.declared.Withdrawal.{Withdrawal}
-use Rattle.steps.specs.declared.Prediction.TheVariants as P
 use Rattle.steps.specs.declared.Correction.TheVariants as C
 use Rattle.steps.specs.Steps.{open_of, predict_of, correct_of, withdraw_of}
-use Rattle.epoch_steps.specs.declared.AfterRound.{AfterRound}
 use Rattle.epoch_steps.specs.declared.RoundAnswer.{RoundAnswer}
 use Rattle.epoch_steps.specs.declared.Outcome.{Outcome}
 use Rattle.epoch_steps.specs.declared.Outcome.TheVariants as R
 use Rattle.epoch_steps.specs.Steps.{start_of, refine_of}
+use Rattle.steps.specs.Answers.{Prediction, Withdrawal, AfterOpen, AfterPredict, AfterCorrect, AfterWithdraw}
+use Rattle.epoch_steps.specs.Answers.{AfterRound}
 
 -- ---- implementations
 
@@ -120,8 +114,8 @@ samples_of = map (λ e. e.sample)
 
 -- the answers *again* since the last prediction; n is what there were before the history
 abbrev pub restarted : Prediction → ℕ → ℕ
-restarted (P.Predicted q) n = 0
-restarted (P.Refused m) n = n
+restarted (Ok q) n = 0
+restarted (Err m) n = n
 
 abbrev pub counted : Correction → ℕ → ℕ
 counted (C.Accepted q) n = n

@@ -1,15 +1,12 @@
 -- What is proved, as one record of statements: `proofs/Theorems.antt` has a proof of each.
-use Rattle.std.specs.Prelude.{◌≡◌, List, [], ◌∷◌, ◌++◌, map, ℕ, ◌+◌, ◌*◌, ◌-◌, ◌<◌, Float, length, get_or}
+use Rattle.std.specs.Prelude.{◌≡◌, List, [], ◌∷◌, ◌++◌, map, ℕ, ◌+◌, ◌*◌, ◌-◌, ◌<◌, Float, length, get_or, Ok, Err}
 use Rattle.integers.specs.Differences.{at}
 use Rattle.ticks.specs.Round.{rounded_of, ticks_in}
 use Rattle.session.specs.declared.Session.{Session}
 use Rattle.session.specs.declared.State.TheVariants.{Awaiting}
 use Rattle.session.specs.Moves.{closed_session}
 use Rattle.session.specs.Holding.{holds, settled, awaiting}
-use Rattle.steps.specs.declared.Opening.TheVariants as O
-use Rattle.steps.specs.declared.Prediction.TheVariants as P
 use Rattle.steps.specs.declared.Correction.TheVariants as C
-use Rattle.steps.specs.declared.Withdrawal.TheVariants as W
 use Rattle.rules.specs.Rules.{NotZero, Decides}
 use Rattle.epoch_session.specs.Records.{starting}
 use Rattle.epoch_steps.specs.declared.Outcome.TheVariants as R
@@ -38,14 +35,14 @@ pub record Replaces (I : Implementation) : Type 0 where
 
 -- demand 3 and the counts as they read of a session that `open` opened, whatever record it replaced
 pub record OfOpenings (I : Implementation) : Type 0 where
-  pub unsummed : (s : Session) (r : Request) → (I.opens s r).answer ≡ O.Opened → (calls : List Call) →
+  pub unsummed : (s : Session) (r : Request) → (I.opens s r).answer ≡ Ok tt → (calls : List Call) →
       Unsummed (origin r) (entries (history I (I.opens s r).session calls))
-  pub same : (s t : Session) (q r : Request) → (I.opens s q).answer ≡ O.Opened → (I.opens t r).answer ≡ O.Opened → Alike q r → (calls others : List Call) →
+  pub same : (s t : Session) (q r : Request) → (I.opens s q).answer ≡ Ok tt → (I.opens t r).answer ≡ Ok tt → Alike q r → (calls others : List Call) →
       samples_of (entries (history I (I.opens s q).session calls)) ≡ samples_of (entries (history I (I.opens t r).session others)) →
       SamePoint I (after I (I.opens s q).session calls) (after I (I.opens t r).session others)
-  pub accepted : (s : Session) (r : Request) → (I.opens s r).answer ≡ O.Opened → (calls : List Call) →
+  pub accepted : (s : Session) (r : Request) → (I.opens s r).answer ≡ Ok tt → (calls : List Call) →
       (after I (I.opens s r).session calls).accepted ≡ length (entries (history I (I.opens s r).session calls))
-  pub awaiting : (s : Session) (r : Request) → (I.opens s r).answer ≡ O.Opened → (calls : List Call) → (after I (I.opens s r).session calls).state ≡ Awaiting →
+  pub awaiting : (s : Session) (r : Request) → (I.opens s r).answer ≡ Ok tt → (calls : List Call) → (after I (I.opens s r).session calls).state ≡ Awaiting →
       (after I (I.opens s r).session calls).corrections ≡ agains 0 (history I (I.opens s r).session calls)
 
 -- the same of a session that rounds opened
@@ -58,7 +55,7 @@ pub record OfStarts (I : Implementation) : Type 0 where
       (after I (I.refines s floats).session calls).state ≡ Awaiting →
       (after I (I.refines s floats).session calls).corrections ≡ agains 0 (history I (I.refines s floats).session calls)
   -- alike an opening: the same p, point 0 and samples, whatever way each was made
-  pub same : (s t : Session) (floats : List Float) (r : Request) → (I.refines s floats).answer.outcome ≡ R.Opened → (I.opens t r).answer ≡ O.Opened →
+  pub same : (s t : Session) (floats : List Float) (r : Request) → (I.refines s floats).answer.outcome ≡ R.Opened → (I.opens t r).answer ≡ Ok tt →
       start_origin s floats ≡ origin r → (calls others : List Call) →
       samples_of (entries (history I (I.refines s floats).session calls)) ≡ samples_of (entries (history I (I.opens t r).session others)) →
       SamePoint I (after I (I.refines s floats).session calls) (after I (I.opens t r).session others)
@@ -70,9 +67,9 @@ pub record OfStarts (I : Implementation) : Type 0 where
 
 -- the answer 7 to a call
 abbrev pub refused7 : Call → Event
-refused7 predict = predicting (P.Refused 7)
+refused7 predict = predicting (Err 7)
 refused7 (correct a) = correcting a (C.Refused 7)
-refused7 withdraw = withdrawing (W.Refused 7)
+refused7 withdraw = withdrawing (Err 7)
 refused7 (refine floats) = refining floats (refused 7)
 
 -- a call that is no round

@@ -16,6 +16,7 @@ pub struct Draw {
 }
 
 // The number after another: both are below 2^31.
+#[tactic(auto, unfolding(crate::specs::Draws::next_of))]
 pub fn next(seed: u64) -> u64
     ensures { result ≡ next_of seed }
 {
@@ -23,6 +24,7 @@ pub fn next(seed: u64) -> u64
 }
 
 // Its high bits, as a number from -32768 to 32767.
+#[tactic(auto, unfolding(crate::specs::Draws::centred_of))]
 fn centred(seed: u64) -> i64
     ensures { result ≡ centred_of seed }
 {
@@ -30,6 +32,7 @@ fn centred(seed: u64) -> i64
     high as i64 - 32_768
 }
 
+#[tactic(auto, unfolding(crate::specs::Draws::drawn_of))]
 pub fn drawn(seed: u64) -> Draw
     ensures { result ≡ drawn_of seed }
 {
@@ -44,6 +47,8 @@ pub fn drawn(seed: u64) -> Draw
     }
 }
 
+// A function and not From<Draw>, since the seed is left out.
+#[tactic(auto, unfolding(crate::specs::Draws::sample_of))]
 pub fn sample_of(d: Draw) -> Sample
     ensures { result ≡ sample_of d }
 {

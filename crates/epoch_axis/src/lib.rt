@@ -48,11 +48,9 @@ fn run_on(samples: [i64; 9], j: usize, sums: Sums) -> Sums
 {
     let mut first = sums.first;
     let mut before = sums.before;
-    let mut left = j;
-    while 0 < left {
-        left -= 1;
+    for i in (0..j).rev() {
         before = before.add(first);
-        first = next_first(first, samples[left]);
+        first = next_first(first, samples[i]);
     }
     Sums { first, before }
 }
@@ -82,11 +80,9 @@ fn run_back(samples: [i64; 9], j: usize, sums: Sums) -> Sums
 {
     let mut first = sums.first;
     let mut before = sums.before;
-    let mut i: usize = 0;
-    while i < j {
+    for i in 0..j {
         first = left_of(first, samples[i] * (Exact::D as i64));
         before = before.subtract(first);
-        i += 1;
     }
     Sums { first, before }
 }
@@ -98,11 +94,16 @@ pub fn earlier_motion(p: usize, a: Axis, j: usize) -> Motion
     requires j_lt_p { j < p }
     ensures { result ≡ earlier_motion p a j }
 {
-    let samples = a.samples;
     let first = a.first;
     let before = a.second.subtract(first);
-    let sums = run_back(samples, j, Sums { first, before });
-    let position = moved(sums.before, epoch_coefficients::position_sum(p, j, samples));
-    let velocity = moved(sums.first, epoch_coefficients::velocity_sum(p, j, samples));
+    let sums = run_back(a.samples, j, Sums { first, before });
+    let position = moved(
+        sums.before,
+        epoch_coefficients::position_sum(p, j, a.samples),
+    );
+    let velocity = moved(
+        sums.first,
+        epoch_coefficients::velocity_sum(p, j, a.samples),
+    );
     Motion { position, velocity }
 }

@@ -9,19 +9,11 @@ ghost use Rattle.epoch_coefficients.specs.Formulas.{earlier_position, earlier_ve
 mod tables;
 
 // Whether p points have a centre with points on both sides.
+#[tactic(auto, unfolding(crate::specs::Formulas::has_centre))]
 pub fn has_centre(p: usize) -> bool
     ensures { result ≡ has_centre p }
 {
-    if p == 3 {
-        return true;
-    }
-    if p == 5 {
-        return true;
-    }
-    if p == 7 {
-        return true;
-    }
-    p == 9
+    matches!(p, 3 | 5 | 7 | 9)
 }
 
 // D times what the series gives to the position j steps before the newest point.
@@ -34,7 +26,7 @@ pub fn position_sum(p: usize, j: usize, samples: [i64; 9]) -> i64
     coefficients::combine(tables::position(p, j), 0, p, samples)
 }
 
-// The same of the velocity.
+// The same of the velocity. Only the table differs, and `combine` is what both call.
 pub fn velocity_sum(p: usize, j: usize, samples: [i64; 9]) -> i64
     requires p_value { has_centre p ≡ true }
     requires j_lt_p { j < p }

@@ -72,6 +72,7 @@ const POSITION_9: [[i64; 9]; 9] = [
     ],
 ];
 
+// Position and velocity share no table, so each has a match of its own.
 pub fn position(p: usize, j: usize) -> [i64; 9]
     requires p_value { has_centre p ≡ true }
     requires j_lt_p { j < p }

@@ -20,13 +20,10 @@ pub fn rounds_agree(tolerances: Tolerances, r: Round, before: Round) -> bool
     requires before_value { round_in_range before ≡ true }
     ensures { result ≡ rounds_agree tolerances r before }
 {
-    let n = r.points;
-    let mut j: usize = 0;
-    while j < n {
+    for j in 0..r.points {
         if !points_agree(tolerances, earlier_point(r, j), earlier_point(before, j)) {
             return false;
         }
-        j += 1;
     }
     true
 }
@@ -40,15 +37,12 @@ pub fn largest_move(r: Round, before: Round) -> Motion
     requires before_value { round_in_range before ≡ true }
     ensures { result ≡ sizes (largest_move r before) }
 {
-    let n = r.points;
     let mut most = no_motion();
-    let mut j: usize = 0;
-    while j < n {
+    for j in 0..r.points {
         most = larger_change(
             most,
             point_change(earlier_point(r, j), earlier_point(before, j)),
         );
-        j += 1;
     }
     most
 }

@@ -15,35 +15,21 @@ use session::{Point, Session, State, estimate_of, settings_hold};
 fn sums_zero(a: Axis) -> bool
     ensures { result ≡ sums_zero a }
 {
-    if !a.first.same(Exact::ZERO) {
-        return false;
-    }
-    a.second.same(Exact::ZERO)
+    a.first.same(Exact::ZERO) && a.second.same(Exact::ZERO)
 }
 
+#[tactic(auto, unfolding(crate::specs::Records::epoch_holds))]
 fn epoch_holds(m: Motion) -> bool
     ensures { result ≡ epoch_holds m }
 {
-    if m.position.part != 0 {
-        return false;
-    }
-    if m.velocity.part != 0 {
-        return false;
-    }
-    in_range(m)
+    m.position.part == 0 && m.velocity.part == 0 && in_range(m)
 }
 
+#[tactic(auto, unfolding(crate::specs::Records::axis_starts))]
 fn axis_starts(p: usize, a: Axis) -> bool
     ensures { result ≡ axis_starts p a }
 {
-    if !sums_zero(a) {
-        return false;
-    }
-    let samples = a.samples;
-    if !places_hold(p, samples) {
-        return false;
-    }
-    epoch_holds(a.estimate)
+    sums_zero(a) && places_hold(p, a.samples) && epoch_holds(a.estimate)
 }
 
 // The round that a starting record holds.
@@ -51,29 +37,30 @@ pub fn held_round(s: Session) -> Round
     requires { HoldsRound s }
     ensures { result ≡ held_round s }
 {
-    let epoch = estimate_of(s);
-    let xs = s.x.samples;
-    let ys = s.y.samples;
-    let zs = s.z.samples;
-    round_of(s.points, epoch, xs, ys, zs)
+    round_of(
+        s.points,
+        estimate_of(s),
+        s.x.samples,
+        s.y.samples,
+        s.z.samples,
+    )
+}
+
+// Each axis keeps the rules: then the record holds a round.
+fn each_starts(s: Session) -> bool
+    ensures { result ≡ every_axis s (axis_starts s.points) }
+{
+    axis_starts(s.points, s.x) && axis_starts(s.points, s.y) && axis_starts(s.points, s.z)
 }
 
 fn axes_start(s: Session) -> bool
     requires { has_centre s.points ≡ true }
     ensures { result ≡ axes_start s }
 {
-    if !axis_starts(s.points, s.x) {
-        return false;
-    }
-    if !axis_starts(s.points, s.y) {
-        return false;
-    }
-    if !axis_starts(s.points, s.z) {
-        return false;
-    }
-    round_in_range(held_round(s))
+    each_starts(s) && round_in_range(held_round(s))
 }
 
+#[tactic(auto, unfolding(crate::specs::Records::older_zero))]
 fn older_zero(a: Axis) -> bool
     ensures { result ≡ older_zero a }
 {
@@ -84,46 +71,26 @@ fn older_zero(a: Axis) -> bool
 fn olders_zero(s: Session) -> bool
     ensures { result ≡ every_axis s older_zero }
 {
-    if !older_zero(s.x) {
-        return false;
-    }
-    if !older_zero(s.y) {
-        return false;
-    }
-    older_zero(s.z)
+    older_zero(s.x) && older_zero(s.y) && older_zero(s.z)
 }
 
+#[tactic(auto, unfolding(crate::specs::Records::start_holds))]
 fn start_holds(s: Session) -> bool
     ensures { result ≡ start_holds s }
 {
-    if !has_centre(s.points) {
-        return false;
-    }
-    if !settings_hold(s.tolerances, s.limit) {
-        return false;
-    }
-    if s.accepted != 0 {
-        return false;
-    }
-    if s.limit <= s.corrections {
-        return false;
-    }
-    if !olders_zero(s) {
-        return false;
-    }
-    axes_start(s)
+    has_centre(s.points)
+        && settings_hold(s.tolerances, s.limit)
+        && s.accepted == 0
+        && s.corrections < s.limit
+        && olders_zero(s)
+        && axes_start(s)
 }
 
+#[tactic(auto, unfolding(crate::specs::Records::starting))]
 pub fn is_starting(s: Session) -> bool
     ensures { result ≡ starting s }
 {
-    let state = s.state;
-    match state {
-        State::Closed => false,
-        State::Settled => false,
-        State::Awaiting => false,
-        State::Starting => start_holds(s),
-    }
+    s.state == State::Starting && start_holds(s)
 }
 
 fn starting_axis(epoch: Motion, samples: [i64; 9]) -> Axis
@@ -132,7 +99,8 @@ fn starting_axis(epoch: Motion, samples: [i64; 9]) -> Axis
     axis_with(Exact::ZERO, Exact::ZERO, no_motion(), samples, epoch)
 }
 
-// Starting, after so many later rounds.
+// Starting, after so many later rounds. The samples are three lists, as the theorems on `starting_session` name them.
+#[tactic(auto, unfolding(crate::specs::Records::starting_session))]
 pub fn start_at(
     points: usize,
     tolerances: Tolerances,
@@ -162,12 +130,10 @@ pub fn start_at(
 }
 
 // Settled at the newest point of a round.
+#[tactic(auto, unfolding(crate::specs::Records::opened_round))]
 pub fn open_round(tolerances: Tolerances, limit: u64, r: Round) -> Session
     ensures { result ≡ opened_round tolerances limit r }
 {
-    let x = r.x;
-    let y = r.y;
-    let z = r.z;
     Session {
         state: State::Settled,
         points: r.points,
@@ -175,8 +141,8 @@ pub fn open_round(tolerances: Tolerances, limit: u64, r: Round) -> Session
         limit,
         accepted: 0,
         corrections: 0,
-        x,
-        y,
-        z,
+        x: r.x,
+        y: r.y,
+        z: r.z,
     }
 }

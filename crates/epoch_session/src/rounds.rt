@@ -10,7 +10,8 @@ use crate::Round;
 use epoch_axis::{earlier_motion, started_axis};
 use session::{Point, point_in_range};
 
-// The samples of each axis are newest first.
+// The samples of each axis are newest first; three lists, as the theorems on `round_of` name them.
+#[tactic(auto, unfolding(crate::specs::Rounds::round_of))]
 pub fn round_of(points: usize, epoch: Point, xs: [i64; 9], ys: [i64; 9], zs: [i64; 9]) -> Round
     requires points_value { has_centre points ≡ true }
     requires placed_point { PlacedPoint epoch }
@@ -26,6 +27,7 @@ pub fn round_of(points: usize, epoch: Point, xs: [i64; 9], ys: [i64; 9], zs: [i6
 }
 
 // The point j steps before the newest.
+#[tactic(auto, unfolding(crate::specs::Rounds::earlier_point))]
 pub fn earlier_point(r: Round, j: usize) -> Point
     requires ready_round { ReadyRound r }
     requires j_lt_points { j < r.points }
@@ -41,13 +43,10 @@ pub fn round_in_range(r: Round) -> bool
     requires { ReadyRound r }
     ensures { result ≡ round_in_range r }
 {
-    let n = r.points;
-    let mut j: usize = 0;
-    while j < n {
+    for j in 0..r.points {
         if !point_in_range(earlier_point(r, j)) {
             return false;
         }
-        j += 1;
     }
     true
 }

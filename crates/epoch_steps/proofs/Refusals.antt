@@ -1,13 +1,14 @@
 -- What each call gives by the number that its rules give, and what is known where nothing refuses it: by the number of each rule, that it did not apply.
-use mathlib.Core.Path.{◌≡◌, refl, sym, ap}
-use mathlib.Core.Bool.{true, false, not, cond}
-use mathlib.Core.List.{List}
+use mathlib.Core.Path.{◌≡◌, refl, sym, ap, ◌∙◌}
+use mathlib.Core.Bool.{Bool, true, false, not, cond}
+use mathlib.Core.List.{List, [], ◌∷◌}
 use Prim.Native.Nat.{ℕ, zero, suc}
+use native.Mathlib.Omega.{arith}
 use borrow.Author.Tests.{not-false, ne_eqb}
 use lib.Ieee.{Float}
 use Rattle.integers.specs.Tests.{◌and◌}
-use Rattle.rules.specs.Rules.{NotZero, Gives}
-use Rattle.rules.proofs.Tests.{clear}
+use Rattle.rules.specs.Rules.{NotZero, first_of, Gives}
+use Rattle.rules.proofs.Tests.{clear, first-before, first-after, given}
 use Rattle.epoch_coefficients.specs.Formulas.{has_centre}
 use Rattle.axis.specs.declared.Tolerances.{Tolerances}
 use Rattle.session.specs.declared.Point.{Point}
@@ -19,7 +20,7 @@ use Rattle.epoch_session.specs.declared.Round.{Round}
 use Rattle.epoch_session.specs.Rounds.{round_in_range, rounds_agree}
 use Rattle.epoch_session.specs.Records.{held_round, starting}
 use Rattle.steps.specs.Refusals.{is_last}
-use Rattle.epoch_steps.specs.Refusals.{first_round, start_rules, start_refusal, later_round, refine_rules, refine_refusal}
+use Rattle.epoch_steps.specs.Refusals.{first_round, start_rules, start_refusal, later_round, later_rules, early_rules, early_refusal, refine_rules, refine_refusal}
 use Rattle.epoch_steps.specs.Steps.{refused, start_by, start_of, refine_by, refine_of}
 
 -- ---- by the number
@@ -75,3 +76,43 @@ module _ (s : Session) (floats : List Float) (e : refine_refusal s floats ≡ 0)
   pub refined-more : (not (rounds_agree s.tolerances (later_round s floats) (held_round s)) and is_last s) ≡ false
   unfolding refine_refusal
   refined-more = (clear 8 (refine_rules s floats) refl e).0
+
+-- ---- before a later round is compared
+
+-- none of the numbers closes the record
+not-8 : (t u v w x y : Bool) → first_of ((t, 7) ∷ (u, 2) ∷ (v, 4) ∷ (w, 13) ∷ (x, 5) ∷ (y, 6) ∷ []) ≡ 8 → ⊥
+unfolding first_of
+not-8 true u v w x y e = omega arith
+not-8 false true v w x y e = omega arith
+not-8 false false true w x y e = omega arith
+not-8 false false false true x y e = omega arith
+not-8 false false false false true y e = omega arith
+not-8 false false false false false true e = omega arith
+not-8 false false false false false false e = omega arith
+
+module _ (s : Session) (floats : List Float) where
+  -- the last rule is looked at where none before it applies
+  abbrev last_rules : List (Bool × ℕ)
+  last_rules = (not (rounds_agree s.tolerances (later_round s floats) (held_round s)) and is_last s, 8) ∷ []
+
+  pub early-refuses : (n : ℕ) → NotZero n → early_refusal s floats ≡ n → record { session = s; answer = refused n } ≡ refine_of s floats
+  unfolding early_refusal
+  early-refuses n f e =
+      sym (refine-refuses s (later_round s floats) n f (λ h. not-8 _ _ _ _ _ _ (e ∙ h))) ∙ refine-gives s floats (first-before (early_rules s floats) last_rules n f e)
+
+  module _ (z : early_refusal s floats ≡ 0) where
+    pub early-starting : starting s ≡ true
+    unfolding early_refusal
+    early-starting = not-false (starting s) (clear 7 (early_rules s floats) refl z).0
+
+    pub early-range : round_in_range (later_round s floats) ≡ true
+    unfolding early_refusal
+    early-range = not-false (round_in_range (later_round s floats)) (clear 6 (early_rules s floats) refl z).0
+
+    left : first_of (later_rules s (later_round s floats)) ≡ first_of last_rules
+    unfolding first_of
+    left = rw early-range refl
+
+    pub early-gives : refine_by (first_of (later_rules s (later_round s floats))) s (later_round s floats) ≡ refine_of s floats
+    unfolding early_refusal
+    early-gives = ap (λ n. refine_by n s (later_round s floats)) left ∙ refine-gives s floats (first-after (early_rules s floats) last_rules refl z (given last_rules))

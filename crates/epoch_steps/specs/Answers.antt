@@ -5,6 +5,7 @@ use Rattle.epoch_session.specs.Rounds.{earlier_point}
 use Rattle.steps.specs.declared.ReportedMotion.{ReportedMotion}
 use Rattle.steps.specs.declared.ReportedPoint.{ReportedPoint}
 use Rattle.steps.specs.Answers.{reported_point, no_point, no_change}
+use Rattle.steps.specs.declared.After.{After}
 use Rattle.epoch_steps.specs.declared.Outcome.{Outcome}
 use Rattle.epoch_steps.specs.declared.RoundValues.{RoundValues}
 use Rattle.epoch_steps.specs.declared.RoundAnswer.{RoundAnswer}
@@ -34,6 +35,10 @@ abbrev pub outcome_values : Outcome → List ReportedPoint → RoundValues
 outcome_values (More c) track = values 0 2 c track
 outcome_values Opened track = values 0 3 no_change track
 outcome_values (Refused n) track = values n 0 no_change track
+
+-- the record as a round leaves it, beside the answer
+abbrev pub AfterRound : Type 0
+AfterRound = After RoundAnswer
 
 abbrev pub round_answer : RoundAnswer → RoundValues
 round_answer a = outcome_values a.outcome a.track

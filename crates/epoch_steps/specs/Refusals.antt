@@ -58,5 +58,15 @@ refine_rules s floats =
     ∷ (not (eqb (length floats) (3 * s.points)), 2)
     ∷ (sample_rules floats ++ later_rules s (later_round s floats))
 
+-- those that are looked at before the round is compared: all but the last
+abbrev pub early_rules : Session → List Float → List (Bool × ℕ)
+early_rules s floats =
+    (not (starting s), 7)
+    ∷ (not (eqb (length floats) (3 * s.points)), 2)
+    ∷ (sample_rules floats ++ (not (round_in_range (later_round s floats)), 6) ∷ [])
+
+unfoldable pub early_refusal : Session → List Float → ℕ
+early_refusal s floats = first_of (early_rules s floats)
+
 unfoldable pub refine_refusal : Session → List Float → ℕ
 refine_refusal s floats = first_of (refine_rules s floats)

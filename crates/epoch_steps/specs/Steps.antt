@@ -9,12 +9,11 @@ use Rattle.epoch_session.specs.Rounds.{rounds_agree, largest_move}
 use Rattle.epoch_session.specs.Records.{held_round, starting_session, opened_round}
 use Rattle.steps.specs.Answers.{reported_change, no_change, unless}
 use Rattle.session.specs.Requests.{Request, exact_point}
-use Rattle.epoch_steps.specs.declared.AfterRound.{AfterRound}
 use Rattle.epoch_steps.specs.declared.RoundValues.{RoundValues}
 use Rattle.epoch_steps.specs.declared.RoundAnswer.{RoundAnswer}
 use Rattle.epoch_steps.specs.declared.Outcome.{Outcome}
 use Rattle.epoch_steps.specs.declared.Outcome.TheVariants.{More, Opened, Refused}
-use Rattle.epoch_steps.specs.Answers.{round_points, no_points, values}
+use Rattle.epoch_steps.specs.Answers.{round_points, no_points, values, AfterRound}
 use Rattle.epoch_steps.specs.Refusals.{first_round, start_refusal, later_round, refine_refusal}
 
 abbrev pub told : Outcome → Round → RoundAnswer

@@ -1,4 +1,4 @@
-// The points of a round beside their reports, and the round of an epoch and floats.
+// The points of a round beside their reports, the round of an epoch and floats, and the answer to one that is refused.
 ghost use Rattle.std.specs.Prelude.{◌≡◌, true, ◌*◌, length};
 ghost use Rattle.epoch_coefficients.specs.Formulas.{has_centre};
 ghost use Rattle.session.specs.Ready.{PlacedPoint};
@@ -6,10 +6,13 @@ ghost use Rattle.epoch_session.specs.Rounds.{round_in_range};
 ghost use Rattle.epoch_session.specs.Ready.{ReadyRound};
 ghost use Rattle.epoch_steps.specs.Answers.{round_points, no_points};
 ghost use Rattle.epoch_steps.specs.Refusals.{given_round};
+ghost use Rattle.epoch_steps.specs.Steps.{refused};
 
+use crate::{AfterRound, Outcome, RoundAnswer};
 use epoch_session::{Round, earlier_point, round_of};
-use session::Point;
-use steps::{ReportedPoint, axis_samples, no_reported_point, report_point};
+use rules::Refusal;
+use session::{Point, Session};
+use steps::{After, ReportedPoint, axis_samples, no_reported_point, report_point};
 
 pub fn given_round(points: usize, epoch: Point, floats: &[f64]) -> Round
     requires points_value { has_centre points ≡ true }
@@ -36,11 +39,21 @@ pub fn round_points(r: Round) -> [ReportedPoint; 9]
     ensures { result ≡ round_points r }
 {
     let mut out = no_points();
-    let n = r.points;
-    let mut i: usize = 0;
-    while i < n {
-        out[i] = report_point(earlier_point(r, n - 1 - i));
-        i += 1;
+    for i in 0..r.points {
+        out[i] = report_point(earlier_point(r, r.points - 1 - i));
     }
     out
+}
+
+// The record that is left, and no points.
+pub fn refused(session: Session, refusal: Refusal) -> AfterRound
+    ensures { result ≡ record { session = session; answer = refused refusal } }
+{
+    After {
+        session,
+        answer: RoundAnswer {
+            outcome: Outcome::Refused(refusal.number()),
+            track: no_points(),
+        },
+    }
 }

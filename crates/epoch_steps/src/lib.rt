@@ -1,8 +1,7 @@
 // A start from an epoch by value: a first round and later ones. Each gives the record that it leaves, beside the answer.
 #![tactic(auto)]
 
-use session::Session;
-use steps::{ReportedMotion, ReportedPoint};
+use steps::{After, ReportedMotion, ReportedPoint};
 
 mod answers;
 mod refines;
@@ -11,7 +10,7 @@ mod starts;
 pub use refines::refine_step;
 pub use starts::start_step;
 
-// More is asked for, with the largest change of each kind; the session is open; or a refusal's number.
+// More is asked for, with the largest change of each kind; the session is open; or a refusal's number: three cases, as the paper asks for a correction's.
 #[derive(Clone, Copy)]
 pub enum Outcome {
     More(ReportedMotion),
@@ -36,8 +35,4 @@ pub struct RoundValues {
     pub track: [ReportedPoint; 9],
 }
 
-#[derive(Clone, Copy)]
-pub struct AfterRound {
-    pub session: Session,
-    pub answer: RoundAnswer,
-}
+pub type AfterRound = After<RoundAnswer>;

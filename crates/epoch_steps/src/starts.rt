@@ -1,33 +1,43 @@
 // A first round: the session is starting, whatever the record held before.
-ghost use Rattle.std.specs.Prelude.{◌≡◌, true, ◌*◌, length};
-ghost use Rattle.rules.specs.Rules.{first_of};
-ghost use Rattle.epoch_coefficients.specs.Formulas.{has_centre};
+ghost use Rattle.std.specs.Prelude.{◌≡◌, true};
 ghost use Rattle.epoch_session.specs.Rounds.{round_in_range};
 ghost use Rattle.epoch_session.specs.Ready.{ReadyRound};
-ghost use Rattle.session.specs.Moves.{closed_session};
 ghost use Rattle.session.specs.Requests.{request};
-ghost use Rattle.session.specs.Ready.{PlacedPoint};
-ghost use Rattle.epoch_steps.specs.Refusals.{given_round, first_rules};
-ghost use Rattle.epoch_steps.specs.Steps.{refused, start_by, start_of};
+ghost use Rattle.steps.specs.Answers.{unrefused};
+ghost use Rattle.epoch_steps.specs.Refusals.{first_round, start_refusal};
+ghost use Rattle.epoch_steps.specs.Steps.{starting_from, start_by, start_of};
 
-use crate::answers::{given_round, no_points, round_points};
+use crate::answers::{given_round, refused, round_points};
 use crate::{AfterRound, Outcome, RoundAnswer};
 use axis::Tolerances;
 use epoch_coefficients::has_centre;
 use epoch_session::{Round, round_in_range, start_at};
-use session::{Point, WholePoint, closed, exact_point, point_in_range, points_hold, settings_hold};
-use steps::{fault_number, no_change};
+use rules::{Reason, Refusal};
+use session::{
+    Point, Session, WholePoint, closed, exact_point, point_in_range, points_hold, settings_hold,
+};
+use steps::{After, fault_number, no_change};
 
-fn refuse_start(number: u8) -> AfterRound
-    ensures { result ≡ record { session = closed_session; answer = refused number } }
+// The record that starts from a round, after so many later ones.
+pub(crate) fn starting_from(
+    tolerances: Tolerances,
+    limit: u64,
+    rounds: u64,
+    epoch: Point,
+    r: Round,
+) -> Session
+    ensures { result ≡ starting_from tolerances limit rounds epoch r }
 {
-    let session = closed();
-    let track = no_points();
-    let answer = RoundAnswer {
-        outcome: Outcome::Refused(number),
-        track,
-    };
-    AfterRound { session, answer }
+    start_at(
+        r.points,
+        tolerances,
+        limit,
+        rounds,
+        epoch,
+        r.x.samples,
+        r.y.samples,
+        r.z.samples,
+    )
 }
 
 // A first round whose points are in range.
@@ -36,41 +46,49 @@ fn begin(tolerances: Tolerances, limit: u64, epoch: Point, r: Round) -> AfterRou
     requires r_value { round_in_range r ≡ true }
     ensures { result ≡ start_by 0 tolerances limit epoch r }
 {
-    let xs = r.x.samples;
-    let ys = r.y.samples;
-    let zs = r.z.samples;
-    let session = start_at(r.points, tolerances, limit, 0, epoch, xs, ys, zs);
-    let track = round_points(r);
-    let change = no_change();
-    let answer = RoundAnswer {
-        outcome: Outcome::More(change),
-        track,
-    };
-    AfterRound { session, answer }
+    After {
+        session: starting_from(tolerances, limit, 0, epoch, r),
+        answer: RoundAnswer {
+            outcome: Outcome::More(no_change()),
+            track: round_points(r),
+        },
+    }
 }
 
-// A first round at an epoch in range, with as many floats as it needs: the samples, and the points that they give.
-fn start_with(
+// The first round, or what refuses it.
+fn first_round(
     points: usize,
     tolerances: Tolerances,
     limit: u64,
-    epoch: Point,
+    epoch: WholePoint,
     floats: &[f64],
-) -> AfterRound
-    requires points_value { has_centre points ≡ true }
-    requires placed_point { PlacedPoint epoch }
-    requires floats_len { length floats.now ≡ 3 * points }
-    ensures { result ≡ start_by (first_of (first_rules points epoch floats.now)) tolerances limit epoch (given_round points epoch floats.now) }
+) -> Result<Round, Refusal>
+    ensures { result ≡ unrefused (start_refusal (request points tolerances limit epoch floats.now)) (first_round (request points tolerances limit epoch floats.now)) }
 {
-    let number = fault_number(ticks::fault_in(floats));
-    if number != 0 {
-        return refuse_start(number);
+    if !points_hold(points) {
+        return Err(Reason::Points.into());
     }
-    let r = given_round(points, epoch, floats);
+    if !has_centre(points) {
+        return Err(Reason::NoCentre.into());
+    }
+    if floats.len() != 3 * points {
+        return Err(Reason::Length.into());
+    }
+    if !settings_hold(tolerances, limit) {
+        return Err(Reason::Settings.into());
+    }
+    let q = exact_point(epoch);
+    if !point_in_range(q) {
+        return Err(Reason::OutOfRange.into());
+    }
+    if let Some(fault) = ticks::fault_in(floats) {
+        return Err(fault_number(fault));
+    }
+    let r = given_round(points, q, floats);
     if !round_in_range(r) {
-        return refuse_start(6);
+        return Err(Reason::OutOfRange.into());
     }
-    begin(tolerances, limit, epoch, r)
+    Ok(r)
 }
 
 pub fn start_step(
@@ -82,21 +100,8 @@ pub fn start_step(
 ) -> AfterRound
     ensures { result ≡ start_of (request points tolerances limit epoch floats.now) }
 {
-    if !points_hold(points) {
-        return refuse_start(1);
+    match first_round(points, tolerances, limit, epoch, floats) {
+        Ok(r) => begin(tolerances, limit, exact_point(epoch), r),
+        Err(refusal) => refused(closed(), refusal),
     }
-    if !has_centre(points) {
-        return refuse_start(10);
-    }
-    if floats.len() != 3 * points {
-        return refuse_start(2);
-    }
-    if !settings_hold(tolerances, limit) {
-        return refuse_start(3);
-    }
-    let q = exact_point(epoch);
-    if !point_in_range(q) {
-        return refuse_start(6);
-    }
-    start_with(points, tolerances, limit, q, floats)
 }

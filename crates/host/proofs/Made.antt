@@ -6,8 +6,8 @@ use Prim.Native.Nat.{ℕ}
 use native.Mathlib.Omega.{arith}
 use lib.Dec.{eqb}
 use lib.ListN.{length}
-use borrow.Author.Tests.{eq-eqb, ne_eqb}
-use Rattle.integers.specs.Tests.{◌and◌}
+use borrow.Author.Tests.{eq-eqb, eqb-true, ne_eqb}
+use Rattle.integers.specs.Tests.{◌and◌, joined}
 use Rattle.session.specs.declared.Session.{Session}
 use Rattle.session.specs.Requests.{Request}
 use Rattle.steps.specs.declared.Answer.{Answer}
@@ -17,7 +17,7 @@ use Rattle.image.specs.Layout.{image_length, record_bytes}
 use Rattle.image.specs.Standing.{standing, image_of}
 use Rattle.image.specs.Reading.{session_in, held_in, is_image, read_of}
 use Rattle.image.proofs.Stands.{standing-again}
-use Rattle.image.proofs.Images.{read-accepted, read-refused}
+use Rattle.image.proofs.Images.{read-accepted, read-refused, accepted-long}
 use Rattle.host.specs.Answers.{answer_length, answer_bytes}
 use Rattle.host.specs.Calls.{Left, handed, untouched, is_answer, host_open, on_image, Leaves}
 
@@ -65,29 +65,28 @@ handed-by : {s t : Session} {a b : Answer} → standing t ≡ t → s ≡ t → 
     (n ≡ a.number) × (image ≡ record_bytes s) × (answer ≡ answer_bytes a) → Leaves (handed t b) n image answer
 handed-by {t = t} h e f (n, i, o) = (n ∙ ap (λ x. x.number) f, i ∙ ap record_bytes e ∙ image-as t h, o ∙ ap answer_bytes f)
 
-none : (b : Bool) {A : Type 0} (x y : A) → cond (b and false) x y ≡ y
-none true x y = refl
-none false x y = refl
-
 -- ---- the calls on an image
 
+pub and-false : (b : Bool) {t : Bool} → t ≡ false → (b and t) ≡ false
+and-false true e = e
+and-false false e = refl
+
+-- where the answer has its length and the image is one, it has its length too
+pub both : (image answer : List ℕ) → (is_answer answer and is_image image) ≡ true → (length image ≡ image_length) × (length answer ≡ answer_length)
+both image answer t =
+    let (a, i) = simp joined at t in
+    (accepted-long image i, eqb-true (length answer) answer_length a)
+
 module _ (image answer : List ℕ) (l : Session → Session) (a : Session → Answer) where
-  pub no_answer : ¬ (length answer ≡ answer_length) → Leaves (on_image image answer l a) 14 image answer
+  pub not-called : (is_answer answer and is_image image) ≡ false → Leaves (on_image image answer l a) 14 image answer
   unfolding on_image
-  no_answer z = told (ap (λ t. cond (t and is_image image) (handed (l (held_in image)) (a (held_in image))) (untouched image answer)) (ne_eqb (length answer) answer_length z)) (refl, refl, refl)
+  not-called f = told (ap (λ t. cond t (handed (l (held_in image)) (a (held_in image))) (untouched image answer)) f) (refl, refl, refl)
 
-  pub no-image : is_image image ≡ false → Leaves (on_image image answer l a) 14 image answer
-  unfolding on_image
-  no-image f =
-      let x = handed (l (held_in image)) (a (held_in image)) in
-      told (ap (λ t. cond (is_answer answer and t) x (untouched image answer)) f ∙ none (is_answer answer) x (untouched image answer)) (refl, refl, refl)
-
-  pub called : length answer ≡ answer_length → is_image image ≡ true → standing (l (held_in image)) ≡ l (held_in image) →
+  pub called : (is_answer answer and is_image image) ≡ true → standing (l (held_in image)) ≡ l (held_in image) →
       {s : Session} {t : Answer} → s ≡ l (held_in image) → t ≡ a (held_in image) → {n : ℕ} {i o : List ℕ} →
       (n ≡ t.number) × (i ≡ record_bytes s) × (o ≡ answer_bytes t) → Leaves (on_image image answer l a) n i o
   unfolding on_image
-  called z f h e g w =
-      told (ap₂ (λ t u. cond (t and u) (handed (l (held_in image)) (a (held_in image))) (untouched image answer)) (eq-eqb (length answer) answer_length z) f) (handed-by h e g w)
+  called f h e g w = told (ap (λ t. cond t (handed (l (held_in image)) (a (held_in image))) (untouched image answer)) f) (handed-by h e g w)
 
 -- ---- open
 
@@ -101,7 +100,7 @@ module _ (image answer : List ℕ) (r : Request) where
   open-no-answer z =
       let x = handed (open_of r).session (open_answer r) in
       let t = eqb (length image) image_length in
-      told (ap (λ u. cond (t and u) x (untouched image answer)) (ne_eqb (length answer) answer_length z) ∙ none t x (untouched image answer)) (refl, refl, refl)
+      told (ap (λ u. cond u x (untouched image answer)) (and-false t (ne_eqb (length answer) answer_length z))) (refl, refl, refl)
 
   pub opened : length image ≡ image_length → length answer ≡ answer_length → standing (open_of r).session ≡ (open_of r).session →
       {s : Session} {t : Answer} → s ≡ (open_of r).session → t ≡ open_answer r → {n : ℕ} {i o : List ℕ} →

@@ -24,17 +24,35 @@ or-false true = refl
 or-false false = refl
 
 module _ (s : Session) where
-  pub settled-by : (k : State) → s.state ≡ k → settled s ≡ (is_settled k and holds s)
+  settled-by : (k : State) → s.state ≡ k → settled s ≡ (is_settled k and holds s)
   unfolding settled
   settled-by k e = ap (λ t. is_settled t and holds s) e
 
-  pub awaiting-by : (k : State) → s.state ≡ k → awaiting s ≡ (is_awaiting k and holds s)
+  awaiting-by : (k : State) → s.state ≡ k → awaiting s ≡ (is_awaiting k and holds s)
   unfolding awaiting
   awaiting-by k e = ap (λ t. is_awaiting t and holds s) e
 
   starting-by : (k : State) → s.state ≡ k → starting s ≡ (is_starting k and start_holds s)
   unfolding starting
   starting-by k e = ap (λ t. is_starting t and start_holds s) e
+
+  pub other-than-settled : (s.state ≡ Settled → ⊥) → settled s ≡ false
+  other-than-settled n = by s.state refl
+    where
+      by : (k : State) → s.state ≡ k → settled s ≡ false
+      by Settled e = absurd (n e)
+      by Closed e = settled-by Closed e
+      by Awaiting e = settled-by Awaiting e
+      by Starting e = settled-by Starting e
+
+  pub other-than-awaiting : (s.state ≡ Awaiting → ⊥) → awaiting s ≡ false
+  other-than-awaiting n = by s.state refl
+    where
+      by : (k : State) → s.state ≡ k → awaiting s ≡ false
+      by Awaiting e = absurd (n e)
+      by Closed e = awaiting-by Closed e
+      by Settled e = awaiting-by Settled e
+      by Starting e = awaiting-by Starting e
 
   -- a record that is saved as itself stands, or is closed
   module _ (h : standing s ≡ s) where

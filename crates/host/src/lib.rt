@@ -6,7 +6,6 @@ ghost use Rattle.host.specs.Calls.{Leaves, host_request, host_open, host_predict
 
 use answers::{correction_answer, opening_answer, prediction_answer, withdrawal_answer};
 use axis::Tolerances;
-use image::read;
 use session::WholePoint;
 use ticks::Sample;
 
@@ -15,7 +14,7 @@ mod held;
 mod samples;
 
 use answering::leave;
-use held::{correct_held, predict_held, withdraw_held};
+use held::{correct_held, held_in, predict_held, withdraw_held};
 use samples::open_from;
 
 pub fn durungkilat_open(
@@ -36,10 +35,7 @@ pub fn durungkilat_open(
     ensures { Leaves (host_open image.old answer.old (host_request points position_tolerance velocity_tolerance limit
         (record { x = x; y = y; z = z; vx = vx; vy = vy; vz = vz }) samples.now)) result image.new answer.new }
 {
-    if image.len() != 656 {
-        return 14;
-    }
-    if answer.len() != 200 {
+    if image.len() != 656 || answer.len() != 200 {
         return 14;
     }
     let tolerances = Tolerances {
@@ -54,57 +50,51 @@ pub fn durungkilat_open(
         vy,
         vz,
     };
-    let r = open_from(points, tolerances, limit, point, samples);
-    let session = r.session;
-    let opening = r.answer;
-    leave(image, answer, session, opening_answer(opening))
+    let after = open_from(points, tolerances, limit, point, samples);
+    leave(image, answer, after.session, opening_answer(after.answer))
 }
 
 pub fn durungkilat_predict(image: &mut [u8], answer: &mut [u8]) -> u32
     ensures { Leaves (host_predict image.old answer.old) result image.new answer.new }
 {
-    if answer.len() != 200 {
+    let Some(held) = held_in(image, answer) else {
         return 14;
-    }
-    let held = read(image);
-    if held.number != 0 {
-        return 14;
-    }
-    let r = predict_held(held.session);
-    let session = r.session;
-    let prediction = r.answer;
-    leave(image, answer, session, prediction_answer(prediction))
+    };
+    let after = predict_held(held);
+    leave(
+        image,
+        answer,
+        after.session,
+        prediction_answer(after.answer),
+    )
 }
 
 pub fn durungkilat_correct(image: &mut [u8], answer: &mut [u8], x: f64, y: f64, z: f64) -> u32
     ensures { Leaves (host_correct image.old answer.old (record { x = x; y = y; z = z })) result image.new answer.new }
 {
-    if answer.len() != 200 {
+    let Some(held) = held_in(image, answer) else {
         return 14;
-    }
-    let held = read(image);
-    if held.number != 0 {
-        return 14;
-    }
-    let a = Sample { x, y, z };
-    let r = correct_held(held.session, a);
-    let session = r.session;
-    let correction = r.answer;
-    leave(image, answer, session, correction_answer(correction))
+    };
+    let after = correct_held(held, Sample { x, y, z });
+    leave(
+        image,
+        answer,
+        after.session,
+        correction_answer(after.answer),
+    )
 }
 
 pub fn durungkilat_withdraw(image: &mut [u8], answer: &mut [u8]) -> u32
     ensures { Leaves (host_withdraw image.old answer.old) result image.new answer.new }
 {
-    if answer.len() != 200 {
+    let Some(held) = held_in(image, answer) else {
         return 14;
-    }
-    let held = read(image);
-    if held.number != 0 {
-        return 14;
-    }
-    let r = withdraw_held(held.session);
-    let session = r.session;
-    let withdrawal = r.answer;
-    leave(image, answer, session, withdrawal_answer(withdrawal))
+    };
+    let after = withdraw_held(held);
+    leave(
+        image,
+        answer,
+        after.session,
+        withdrawal_answer(after.answer),
+    )
 }

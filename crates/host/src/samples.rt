@@ -14,11 +14,9 @@ fn floats_in(n: usize, bytes: &[u8]) -> [f64; 27]
     requires { (n ≤ 27) × (8 * n ≤ length bytes.now) }
     ensures { take n result ≡ floats_in n bytes.now }
 {
-    let mut out = [0.0f64; 27];
-    let mut i = 0;
-    while i < n {
+    let mut out = [0.0; 27];
+    for i in 0..n {
         out[i] = float_of(word_at(bytes, 8 * i));
-        i += 1;
     }
     out
 }
@@ -27,13 +25,11 @@ fn floats_in(n: usize, bytes: &[u8]) -> [f64; 27]
 fn count(points: usize, bytes: usize) -> usize
     ensures { result ≡ float_count points bytes }
 {
-    if !points_hold(points) {
-        return 0;
+    if points_hold(points) && bytes == 24 * points {
+        3 * points
+    } else {
+        0
     }
-    if bytes != 24 * points {
-        return 0;
-    }
-    3 * points
 }
 
 pub(crate) fn open_from(

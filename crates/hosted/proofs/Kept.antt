@@ -4,7 +4,6 @@ use mathlib.Core.Path.{◌≡◌, refl, sym, ap, ◌∙◌, subst}
 use mathlib.Core.List.{List, [], ◌∷◌}
 use Rattle.session.specs.declared.Session.{Session}
 use Rattle.session.specs.Requests.{Request}
-use Rattle.steps.specs.declared.Opening.TheVariants as O
 use Rattle.steps.specs.Refusals.{open_refusal}
 use Rattle.steps.specs.Steps.{open_by, open_of}
 use Rattle.steps.proofs.Answers.{predict-answers, correct-answers, withdraw-answers}
@@ -28,6 +27,7 @@ use Rattle.hosted.specs.Runs.{Asked, image_after, called}
 use Rattle.hosted.proofs.Left.{open-shaped, calls-shaped}
 use Rattle.hosted.proofs.Each.{open-stands, open-succeeds}
 use Rattle.hosted.proofs.Any.{any_left}
+use Rattle.std.specs.Prelude.{Ok}
 
 -- ---- what our functions do is allowed
 
@@ -76,7 +76,7 @@ any-alike o s t h k b d asked others e =
 
 -- ---- an open that is not refused
 
-opens-so : (r : Request) → open_refusal r ≡ 0 → (open_of r).answer ≡ O.Opened
+opens-so : (r : Request) → open_refusal r ≡ 0 → (open_of r).answer ≡ Ok tt
 unfolding open_of
 opens-so r e = ap (λ n. (open_by n r).answer) e
 

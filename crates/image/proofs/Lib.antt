@@ -1,4 +1,4 @@
--- Laws over the crate's definitions: patterns of floats (`Patterns`), a word and its eight bytes (`Eight`, `Signs`), words put one behind the other (`Puts`);
+-- Laws over the crate's definitions: patterns of floats (`Patterns`), a word's eight bytes (`Eight`), a number with its sign as a word (`Signs`), words put one behind the other (`Puts`);
 -- the numbers of a record fit their words (`Fitting`), what is saved of it (`Stands`), words at a place of bytes (`Said`), the bodies and the table (`Bodies`),
 -- a record read back (`Back`), images (`Images`, `Figures`), the records that the calls leave (`Left`), lengths (`Lengths`) and bytes of words (`WordLaws`). `Theorems` collects what is proved.
 mod Patterns

@@ -12,7 +12,7 @@ use borrow.Author.Tests.{lt-ltb, le-ltb}
 pub no-nan-pattern : (n : ℕ) → bit_and n 9223372036854775807 ≤ 9218868437227405312 → T (not (nan_bits binary64 n))
 no-nan-pattern n h = subst (λ b. T (not b)) (sym (nan_bits_above binary64 n ∙ le-ltb _ _ (rw (and_mask n 63) at h))) tt
 
-is-nan : (x : Float) → is_nan x ≡ true → nan ≡ x
+pub is-nan : (x : Float) → is_nan x ≡ true → nan ≡ x
 unfolding is_nan
 is-nan nan e = refl
 is-nan (inf s) e = absurd (subst T (sym e) tt)

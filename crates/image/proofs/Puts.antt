@@ -1,13 +1,17 @@
 -- Words that were put, one after the other.
-use mathlib.Core.Path.{◌≡◌, refl, ◌∙◌, ap, subst}
-use mathlib.Core.List.{List, [], ◌∷◌, ◌++◌, append-nil}
-use Prim.Native.Nat.{ℕ, suc, ◌+◌, ◌*◌, ◌/◌, ◌%◌, ◌<◌, ◌≤◌}
+use mathlib.Core.Path.{◌≡◌, refl, sym, ◌∙◌, ap, subst}
+use mathlib.Core.List.{List, [], ◌∷◌, ◌++◌, append_assoc, append-nil}
+use Prim.Native.Nat.{ℕ, ◌+◌, ◌*◌, ◌≤◌}
 use native.Mathlib.Omega.{arith}
-use lib.ListN.{length, drop, set, drop_of_length-le}
+use lib.ListN.{length, take, drop, drop_of_length-le, length-append, length-drop}
+use lib.Seq.{drop-drop, length-take-le}
 use Rattle.text.specs.Places.{written, Wrote}
-use Rattle.text.proofs.Pieces.{nothing, byte, then}
+use Rattle.text.proofs.Pieces.{nothing, then}
 use Rattle.image.specs.Bytes.{bytes_of, in_bytes, Put}
 use Rattle.image.proofs.WordLaws.{length-in_bytes, in_bytes-append}
+use Rattle.image.proofs.Eight.{word-written}
+use borrow.Rule.Slice.PartMut.{put_mid}
+use Rattle.std.specs.Int.{w64, to_le_bytes}
 
 -- as a text that was written
 wrote : {a b words : List ℕ} {i : ℕ} (j : ℕ) → Put a i words b → j ≡ i + 8 * length words → Wrote a i (in_bytes words) b j
@@ -40,32 +44,18 @@ pub put_all : {a b words : List ℕ} → Put a 0 words b → length a ≤ 8 * le
 put_all {a} {b} {words} p l =
     put_front p ∙ ap (λ t. in_bytes words ++ t) (drop_of_length-le a {i = 8 * length words} l) ∙ append-nil (in_bytes words)
 
--- ---- a word, byte by byte
+-- ---- a word: its eight bytes stand in place of what was there
 
-next : {a b s : List ℕ} {i : ℕ} (k x : ℕ) → Wrote a i s b (i + k) → i + k < length a → Wrote a i (s ++ (x ∷ [])) (set b (i + k) x) (i + suc k)
-next {a} {b} {s} {i} k x w h =
-    let e : i + k + 1 ≡ i + suc k = omega arith in
-    subst (λ m. Wrote a i (s ++ (x ∷ [])) (set b (i + k) x) m) e (then w (byte b (i + k) x (omega (arith, w.long))))
-
-pub put-bytes : (l : List ℕ) (at w : ℕ) → at + 8 ≤ length l
-    → Put l at (w ∷ [])
-    (set (set (set (set (set (set (set (set l
-    at (w % 256))
-    (at + 1) (w / 256 % 256))
-    (at + 2) (w / 256 / 256 % 256))
-    (at + 3) (w / 256 / 256 / 256 % 256))
-    (at + 4) (w / 256 / 256 / 256 / 256 % 256))
-    (at + 5) (w / 256 / 256 / 256 / 256 / 256 % 256))
-    (at + 6) (w / 256 / 256 / 256 / 256 / 256 / 256 % 256))
-    (at + 7) (w / 256 / 256 / 256 / 256 / 256 / 256 / 256 % 256))
-unfolding in_bytes bytes_of
-put-bytes l at w h =
-    let a = byte l at (w % 256) (omega arith) in
-    let b = next 1 (w / 256 % 256) a (omega arith) in
-    let c = next 2 (w / 256 / 256 % 256) b (omega arith) in
-    let d = next 3 (w / 256 / 256 / 256 % 256) c (omega arith) in
-    let e = next 4 (w / 256 / 256 / 256 / 256 % 256) d (omega arith) in
-    let f = next 5 (w / 256 / 256 / 256 / 256 / 256 % 256) e (omega arith) in
-    let g = next 6 (w / 256 / 256 / 256 / 256 / 256 / 256 % 256) f (omega arith) in
-    let r = next 7 (w / 256 / 256 / 256 / 256 / 256 / 256 / 256 % 256) g (omega arith) in
-    record { holds = r.holds; long = r.long }
+pub put-word : (l : List ℕ) (at w k : ℕ) (bytes : List ℕ) → k ≡ 8 → bytes ≡ to_le_bytes w64 w → at + 8 ≤ length l → Put l at (w ∷ []) (put_mid at k l bytes)
+unfolding in_bytes written
+put-word l at w k bytes n e r =
+    let text = in_bytes (w ∷ []) in
+    let is : bytes ≡ text = e ∙ word-written w ∙ sym (append-nil (bytes_of 8 w)) in
+    let long : length text ≡ k = omega (arith, length-in_bytes (w ∷ [])) in
+    let past = drop k (drop at l) in
+    let past-is : past ≡ drop (at + length text) l = drop-drop k at l ∙ ap (λ j. drop (at + j) l) (sym long) in
+    let size : length bytes ≡ 8 = ap length e in
+    record {
+      holds = ap (λ t. take at l ++ (t ++ past)) is ∙ sym (append_assoc (take at l) text past) ∙ ap (λ t. take at l ++ text ++ t) past-is;
+      long = omega (arith, length-append (take at l) (bytes ++ past), length-append bytes past, length-take-le at l (omega arith), length-drop k (drop at l), length-drop at l);
+    }

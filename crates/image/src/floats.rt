@@ -17,7 +17,7 @@ pub fn float_of(bits: u64) -> f64
 pub fn bits_of(x: f64) -> u64
     ensures { result ≡ to_bits binary64 x }
 {
-    if x != x {
+    if x.is_nan() {
         return 0x7FF8_0000_0000_0000;
     }
     f64::to_bits(x)

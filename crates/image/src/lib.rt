@@ -15,7 +15,7 @@ pub use saving::{read, save};
 pub use words::{put_u64, word_at};
 pub use writing::{put_exact, put_record};
 
-// 0 and the session, or 14 and the closed one.
+// 0 and the session, or 14 and the closed one. No Option: theorem OfReading says the number and the session of a refusal too.
 #[derive(Clone, Copy)]
 pub struct Loaded {
     pub number: u8,

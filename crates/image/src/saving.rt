@@ -8,24 +8,8 @@ ghost use Rattle.image.specs.Reading.{save_number, saved_in, read_of};
 use crate::Loaded;
 use crate::reading::session_in;
 use crate::standing::standing;
-use crate::words::word_at;
 use crate::writing::put_record;
 use session::{Session, closed};
-
-// The same 656 bytes, word by word.
-fn same_words(a: &[u8], b: &[u8]) -> bool
-    requires { (length a.now ≡ 656) × (length b.now ≡ 656) }
-    ensures { result ≡ same_bytes a.now b.now }
-{
-    let mut i = 0;
-    while i < 82 {
-        if word_at(a, 8 * i) != word_at(b, 8 * i) {
-            return false;
-        }
-        i += 1;
-    }
-    true
-}
 
 // Bytes are those of a record.
 fn is_record(bytes: &[u8], s: Session) -> bool
@@ -34,7 +18,7 @@ fn is_record(bytes: &[u8], s: Session) -> bool
 {
     let mut room = [0u8; 656];
     put_record(&mut room, s);
-    same_words(bytes, &room)
+    bytes == room.as_slice()
 }
 
 pub fn save(room: &mut [u8], s: Session) -> u8
@@ -50,10 +34,9 @@ pub fn save(room: &mut [u8], s: Session) -> u8
 fn no_image() -> Loaded
     ensures { result ≡ record { number = 14; session = closed_session } }
 {
-    let session = closed();
     Loaded {
         number: 14,
-        session,
+        session: closed(),
     }
 }
 

@@ -8,13 +8,7 @@ use session::{Session, closed, is_awaiting, is_settled};
 fn stands(s: Session) -> bool
     ensures { result ≡ stands s }
 {
-    if is_settled(s) {
-        return true;
-    }
-    if is_awaiting(s) {
-        return true;
-    }
-    is_starting(s)
+    is_settled(s) || is_awaiting(s) || is_starting(s)
 }
 
 pub(crate) fn standing(s: Session) -> Session

@@ -3,7 +3,7 @@ ghost use Rattle.std.specs.Prelude.{◌≡◌, [], ◌∷◌, ◌+◌, ◌≤◌
 ghost use Rattle.image.specs.Bytes.{Put};
 ghost use Rattle.image.specs.Layout.{exact_words, motion_words, state_word, settings_words, axis_sums, sums_words, place_words, samples_words, estimate_words, contents, record_words};
 
-use crate::words::{put_u64, signed_word};
+use crate::words::put_u64;
 use axis::{Axis, Motion};
 use exact::Exact;
 use session::{Session, State};
@@ -12,7 +12,7 @@ pub fn put_exact(out: &mut [u8], at: usize, e: Exact)
     requires { at + 16 ≤ length out.old }
     ensures { Put out.old at (exact_words e) out.new }
 {
-    put_u64(out, at, signed_word(e.whole));
+    put_u64(out, at, e.whole.cast_unsigned());
     put_u64(out, at + 8, e.part as u64);
 }
 
@@ -57,8 +57,7 @@ fn put_settings(out: &mut [u8], at: usize, s: Session)
     requires { at + 56 ≤ length out.old }
     ensures { Put out.old at (settings_words s) out.new }
 {
-    let state = s.state;
-    put_u64(out, at, state_word(state));
+    put_u64(out, at, state_word(s.state));
     put_u64(out, at + 8, s.points as u64);
     put_u64(out, at + 16, s.tolerances.position);
     put_u64(out, at + 24, s.tolerances.velocity);
@@ -71,22 +70,17 @@ fn put_place(out: &mut [u8], at: usize, i: usize, s: Session)
     requires { (i < 9) × (at + 24 ≤ length out.old) }
     ensures { Put out.old at (place_words i s) out.new }
 {
-    let xs = s.x.samples;
-    let ys = s.y.samples;
-    let zs = s.z.samples;
-    put_u64(out, at, signed_word(xs[i]));
-    put_u64(out, at + 8, signed_word(ys[i]));
-    put_u64(out, at + 16, signed_word(zs[i]));
+    put_u64(out, at, s.x.samples[i].cast_unsigned());
+    put_u64(out, at + 8, s.y.samples[i].cast_unsigned());
+    put_u64(out, at + 16, s.z.samples[i].cast_unsigned());
 }
 
 fn put_samples(out: &mut [u8], at: usize, s: Session)
     requires { at + 216 ≤ length out.old }
     ensures { Put out.old at (samples_words s) out.new }
 {
-    let mut i = 0;
-    while i < 9 {
+    for i in 0..9 {
         put_place(out, at + 24 * i, i, s);
-        i += 1;
     }
 }
 

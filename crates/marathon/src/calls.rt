@@ -1,10 +1,10 @@
 // The calls of the marathon, with a count of what was answered.
 use session::Session;
-use steps::{Correction, Prediction, Withdrawal};
+use steps::Correction;
 use ticks::Sample;
 
 // Answers of each kind, and how often an answer was another than it should be or a formula did not hold.
-#[derive(Clone, Copy)]
+#[derive(Clone, Copy, Default)]
 pub(crate) struct Seen {
     pub(crate) accepted: u64,
     pub(crate) again: u64,
@@ -18,90 +18,49 @@ pub(crate) struct Host {
     pub(crate) seen: Seen,
 }
 
-#[derive(Clone, Copy)]
-pub(crate) struct Corrected {
-    pub(crate) host: Host,
-    pub(crate) answer: Correction,
+fn count(n: &mut u64) {
+    *n = n.wrapping_add(1);
 }
 
-pub(crate) fn nothing_seen() -> Seen {
-    Seen {
-        accepted: 0,
-        again: 0,
-        withdrawn: 0,
-        failed: 0,
+impl Host {
+    pub(crate) fn fail(&mut self) {
+        count(&mut self.seen.failed);
+    }
+
+    pub(crate) fn predict(&mut self) {
+        let after = stepper::owned::predict(self.session);
+        self.session = after.session;
+        if after.answer.is_err() {
+            self.fail();
+        }
+    }
+
+    pub(crate) fn withdraw(&mut self) {
+        let after = stepper::owned::withdraw(self.session);
+        self.session = after.session;
+        if after.answer.is_ok() {
+            count(&mut self.seen.withdrawn);
+        } else {
+            self.fail();
+        }
+    }
+
+    pub(crate) fn correct(&mut self, a: Sample) -> Correction {
+        let after = stepper::owned::correct(self.session, a);
+        self.session = after.session;
+        match after.answer {
+            Correction::Accepted(_) => count(&mut self.seen.accepted),
+            Correction::Again(_, _) => count(&mut self.seen.again),
+            Correction::Refused(_) => self.fail(),
+        }
+        after.answer
     }
 }
 
-fn more(n: u64) -> u64 {
-    std::num::wrapping_add_u64(n, 1)
-}
-
-fn with_accepted(s: Seen) -> Seen {
-    let mut seen = s;
-    seen.accepted = more(seen.accepted);
-    seen
-}
-
-fn with_again(s: Seen) -> Seen {
-    let mut seen = s;
-    seen.again = more(seen.again);
-    seen
-}
-
-fn with_withdrawn(s: Seen) -> Seen {
-    let mut seen = s;
-    seen.withdrawn = more(seen.withdrawn);
-    seen
-}
-
-pub(crate) fn with_failed(s: Seen) -> Seen {
-    let mut seen = s;
-    seen.failed = more(seen.failed);
-    seen
-}
-
-pub(crate) fn predict(h: Host) -> Host {
-    let after = stepper::owned::predict(h.session);
-    let answer = after.answer;
-    let session = after.session;
-    let seen = match answer {
-        Prediction::Predicted(point) => h.seen,
-        Prediction::Refused(number) => with_failed(h.seen),
-    };
-    Host { session, seen }
-}
-
-pub(crate) fn withdraw(h: Host) -> Host {
-    let after = stepper::owned::withdraw(h.session);
-    let answer = after.answer;
-    let session = after.session;
-    let seen = match answer {
-        Withdrawal::Withdrawn => with_withdrawn(h.seen),
-        Withdrawal::Refused(number) => with_failed(h.seen),
-    };
-    Host { session, seen }
-}
-
-pub(crate) fn correct(h: Host, a: Sample) -> Corrected {
-    let after = stepper::owned::correct(h.session, a);
-    let answer = after.answer;
-    let session = after.session;
-    let seen = match answer {
-        Correction::Accepted(point) => with_accepted(h.seen),
-        Correction::Again(point, change) => with_again(h.seen),
-        Correction::Refused(number) => with_failed(h.seen),
-    };
-    let host = Host { session, seen };
-    Corrected { host, answer }
-}
-
 // The number that a prediction is refused by, and 0 if it is not.
-pub(crate) fn refused_prediction(s: Session) -> u64 {
-    let after = stepper::owned::predict(s);
-    let answer = after.answer;
-    match answer {
-        Prediction::Predicted(point) => 0,
-        Prediction::Refused(number) => number as u64,
+pub(crate) fn refused_prediction(s: Session) -> u8 {
+    match stepper::owned::predict(s).answer {
+        Ok(_) => 0,
+        Err(refusal) => refusal.number(),
     }
 }

@@ -1,6 +1,4 @@
-// The formulas without sums at nine points, every number over D.
-use crate::checked;
-use crate::checked::{Checked, known};
+// The formulas without sums at nine points, every number over D. A number that is too large for an i64 is none, and so is all that is made of it.
 use exact::Exact;
 
 // D times l(0) to l(10).
@@ -34,55 +32,56 @@ const ADAMS: [i64; 11] = [
 ];
 
 // The sum of B^i a(n), each times its weight.
-fn weighted(weights: [i64; 11], differences: [i64; 11]) -> Checked {
-    let mut sum = known(0);
-    let mut i: usize = 0;
-    while i < 11 {
-        let term = checked::times(known(weights[i]), known(differences[i]));
-        sum = checked::plus(sum, term);
-        i += 1;
+fn weighted(weights: &[i64; 11], differences: &[i64; 11]) -> Option<i64> {
+    let mut sum: i64 = 0;
+    for (weight, difference) in weights.iter().zip(differences) {
+        sum = sum.checked_add(weight.checked_mul(*difference)?)?;
     }
-    sum
+    Some(sum)
 }
 
-fn over_d(whole: Checked, part: Checked) -> Checked {
-    checked::plus(checked::times(whole, known(159_667_200)), part)
+fn over_d(whole: i64, part: i64) -> Option<i64> {
+    whole.checked_mul(159_667_200)?.checked_add(part)
 }
 
-fn part_of(e: Exact) -> Checked {
-    known(e.part as i64)
+fn part_of(e: Exact) -> i64 {
+    i64::from(e.part)
 }
 
-fn difference(now: Exact, last: Exact) -> Checked {
-    let whole = checked::minus(known(now.whole), known(last.whole));
-    let part = checked::minus(part_of(now), part_of(last));
+fn difference(now: Exact, last: Exact) -> Option<i64> {
+    let whole = now.whole.checked_sub(last.whole)?;
+    let part = part_of(now).checked_sub(part_of(last))?;
     over_d(whole, part)
 }
 
 // Positions lie too far out to be numbers over D, but their second differences do not.
-fn second_difference(now: Exact, last: Exact, before: Exact) -> Checked {
-    let latest = checked::minus(known(now.whole), known(last.whole));
-    let earlier = checked::minus(known(last.whole), known(before.whole));
-    let part = checked::minus(part_of(now), part_of(last));
-    let part_earlier = checked::minus(part_of(last), part_of(before));
+fn second_difference(now: Exact, last: Exact, before: Exact) -> Option<i64> {
+    let latest = now.whole.checked_sub(last.whole)?;
+    let earlier = last.whole.checked_sub(before.whole)?;
+    let part = part_of(now).checked_sub(part_of(last))?;
+    let part_earlier = part_of(last).checked_sub(part_of(before))?;
     over_d(
-        checked::minus(latest, earlier),
-        checked::minus(part, part_earlier),
+        latest.checked_sub(earlier)?,
+        part.checked_sub(part_earlier)?,
     )
 }
 
+fn same(a: Option<i64>, b: Option<i64>) -> bool {
+    a.is_some() && a == b
+}
+
 pub(crate) fn position_holds(
-    differences: [i64; 11],
+    differences: &[i64; 11],
     now: Exact,
     last: Exact,
     before: Exact,
 ) -> bool {
-    checked::same(
+    same(
         second_difference(now, last, before),
-        weighted(COWELL, differences),
+        weighted(&COWELL, differences),
     )
 }
 
-pub(crate) fn velocity_holds(differences: [i64; 11], now: Exact, last: Exact) -> bool {
-    checked::same(difference(now, last), weighted(ADAMS, differences))
+pub(crate) fn velocity_holds(differences: &[i64; 11], now: Exact, last: Exact) -> bool {
+    same(difference(now, last), weighted(&ADAMS, differences))
 }

@@ -3,48 +3,34 @@
 #![tactic(auto)]
 
 mod calls;
-mod checked;
-mod console;
 mod course;
 mod formulas;
 mod near;
 mod track;
 
-use calls::Seen;
-use console::{say, say_count, say_exact};
-use track::Track;
-
-fn say_line(rt: &HostRuntime, name: &[u8], count: u64) {
-    say(rt, name);
-    say_count(rt, count);
-    say(rt, b"\n");
-}
+use axis::Motion;
 
 // The last point of an axis.
-fn say_track(rt: &HostRuntime, name: &[u8], t: Track) {
-    say(rt, name);
-    say_exact(rt, t.last.position);
-    say_exact(rt, t.last.velocity);
-    say(rt, b"\n");
+fn say_point(rt: &HostRuntime, name: &str, last: Motion) {
+    let (p, v) = (last.position, last.velocity);
+    let _taken = println!(rt; "{name} {} {} {} {}", p.whole, p.part, v.whole, v.part).is_ok();
 }
 
-fn say_seen(rt: &HostRuntime, seen: Seen) {
-    say_line(rt, b"accepted ", seen.accepted);
-    say_line(rt, b"again ", seen.again);
-    say_line(rt, b"withdrawn ", seen.withdrawn);
-    say_line(rt, b"failed ", seen.failed);
+fn say_count(rt: &HostRuntime, name: &str, count: u64) {
+    let _taken = println!(rt; "{name} {count}").is_ok();
 }
 
 fn main(rt: HostRuntime) {
-    let end = course::run(course::begin());
-    let session = end.host.session;
-    say_track(&rt, b"x", end.x);
-    say_track(&rt, b"y", end.y);
-    say_track(&rt, b"z", end.z);
-    say_seen(&rt, end.host.seen);
-    say_line(
-        &rt,
-        b"one more is refused ",
-        calls::refused_prediction(session),
-    );
+    let mut course = course::begin();
+    course.run();
+    say_point(&rt, "x", course.x.last);
+    say_point(&rt, "y", course.y.last);
+    say_point(&rt, "z", course.z.last);
+    let host = course.host;
+    say_count(&rt, "accepted", host.seen.accepted);
+    say_count(&rt, "again", host.seen.again);
+    say_count(&rt, "withdrawn", host.seen.withdrawn);
+    say_count(&rt, "failed", host.seen.failed);
+    let number = calls::refused_prediction(host.session);
+    say_count(&rt, "one more is refused", u64::from(number));
 }

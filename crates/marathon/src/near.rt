@@ -1,13 +1,10 @@
 // The samples of a second correction.
-use crate::checked;
-use crate::checked::known;
 use drawing::{Draw, next};
 
 // A sample moved by -8 to 7.
 fn moved(sample: i64, seed: u64) -> i64 {
     let high = seed / 32_768 % 16;
-    let by = checked::minus(known(high as i64), known(8));
-    checked::plus(known(sample), by).value
+    sample.wrapping_add(high as i64 - 8)
 }
 
 // Samples near those of the first correction.

@@ -1,33 +1,32 @@
 -- What an inspector asks of the text and the room: the first time is the start as it was given, every time is read back as the start and so many steps,
 -- a message is as long in either edition, and a refusal of any number leaves the room as it was.
-use Rattle.std.specs.Prelude.{◌≡◌, refl, ℕ, zero, suc, ◌+◌, ◌*◌, ◌≤◌, length}
+use Rattle.std.specs.Prelude.{Some, unwrap_or, ◌≡◌, refl, ℕ, zero, suc, ◌+◌, ◌*◌, ◌≤◌, length}
 use Rattle.std.proofs.Common.{sym, ◌∙◌, ap, arith, length-append}
 use mathlib.Core.List.{List, ◌∷◌, flatten}
 use Rattle.text.specs.Numbers.{ascii}
-use Rattle.calendar.specs.declared.Reading.TheVariants.{Time}
 use Rattle.calendar.specs.Calendar.{most_seconds}
 use Rattle.calendar.specs.Text.{time_in}
 use Rattle.calendar.proofs.Back.{time-exactly}
 use Rattle.message.specs.declared.Edition.{Edition}
 use Rattle.message.specs.declared.Edition.TheVariants.{Two, Three}
 use Rattle.message.specs.Editions.{version_of}
-use Rattle.message.specs.Request.{Request, seconds_or, seconds_in, seconds_at}
+use Rattle.message.specs.Request.{Request, seconds_in, seconds_at}
 use Rattle.message.specs.Message.{entry, says, time_after, message_as, message}
 use Rattle.message.specs.Refusals.{refusal}
 use Rattle.message.specs.Answer.{answer_by, room_by, answer_as, room_as}
 
 -- ---- times
 
-pub first-as-given : (r : Request) (n : ℕ) → time_in r.start ≡ Time n → time_after (seconds_at r 0) ≡ r.start
+pub first-as-given : (r : Request) (n : ℕ) → time_in r.start ≡ Some n → time_after (seconds_at r 0) ≡ r.start
 unfolding seconds_at seconds_in
 first-as-given r n e =
-    let z : seconds_or (time_in r.start) + 0 * r.step ≡ n = ap (λ t. seconds_or t + 0 * r.step) e ∙ none n r.step in
+    let z : unwrap_or (time_in r.start) 0 + 0 * r.step ≡ n = ap (λ t. unwrap_or t 0 + 0 * r.step) e ∙ none n r.step in
     ap time_after z ∙ sym ((time-exactly r.start n).0 e).1
   where
     none : (n step : ℕ) → n + 0 * step ≡ n
     none n step = omega arith
 
-pub times-back : (r : Request) (i : ℕ) → seconds_at r i ≤ most_seconds → time_in (time_after (seconds_at r i)) ≡ Time (seconds_at r i)
+pub times-back : (r : Request) (i : ℕ) → seconds_at r i ≤ most_seconds → time_in (time_after (seconds_at r i)) ≡ Some (seconds_at r i)
 times-back r i h = (time-exactly (time_after (seconds_at r i)) (seconds_at r i)).1 (h, refl)
 
 -- ---- editions

@@ -9,8 +9,9 @@ use lib.Dec.{eqb}
 use lib.ListN.{length, length-append}
 use borrow.Author.Tests.{eqb-true, eqb-false}
 use Rattle.integers.specs.Tests.{joined, clash, fails}
-use Rattle.text.specs.Places.{Wrote}
-use Rattle.text.proofs.Pieces.{then}
+use Rattle.text.specs.Writes.{Writes}
+use Rattle.text.specs.declared.writing.Writer.{Writer}
+use Rattle.text.proofs.Written.{then}
 use Rattle.message.specs.Message.{texts}
 use Rattle.message.specs.Refusals.{all_of}
 
@@ -61,8 +62,8 @@ module _ (f : ℕ → List ℕ) where
   texts-room k zero h = absurd (omega arith)
   texts-room k (suc n) h = rw (← (add-one n)) (room_by k n (eqb k n) refl (λ l. texts-room k n l) h)
 
-  pub next-text : {a b c : List ℕ} {i j l : ℕ} (k : ℕ) → Wrote a i (texts f k) b j → Wrote b j (f k) c l → Wrote a i (texts f (k + 1)) c l
-  next-text k w v = rw (texts-more k) (then w v)
+  pub next-text : {u v w : Writer} (k : ℕ) → Writes u (texts f k) v → Writes v (f k) w → Writes u (texts f (k + 1)) w
+  next-text k g h = rw (texts-more k) (then g h)
 
 -- texts that are as long one by one are so together
 pub as_long : (f g : ℕ → List ℕ) → ((i : ℕ) → length (f i) ≡ length (g i)) → (n : ℕ) → length (texts f n) ≡ length (texts g n)

@@ -13,15 +13,15 @@ use Rattle.integers.specs.Tests.{◌and◌, joined, clash, fails}
 use Rattle.rules.specs.Rules.{Decides}
 use Rattle.rules.proofs.Readings.{decides}
 use Rattle.text.specs.Numbers.{ascii}
-use Rattle.calendar.specs.declared.Reading.{Reading}
-use Rattle.calendar.specs.declared.Reading.TheVariants as R
+use Rattle.std.specs.Prelude.{Option, is_some}
+use Rattle.std.specs.Prelude as P
 use Rattle.calendar.specs.Calendar.{Within, seconds_of, most_seconds}
 use Rattle.calendar.specs.Text.{time_in}
 use Rattle.calendar.proofs.Back.{time-back, time-only}
 use Rattle.calendar.proofs.Moments.{last-moment}
 use Rattle.message.specs.Request.{Request, count_of, seconds_in, seconds_at}
 use Rattle.message.specs.Form.{has_between, all_between, one_case, name_holds, fits}
-use Rattle.message.specs.Refusals.{is_some, is_time, names_hold, settings_hold, ends_in_time, well_formed}
+use Rattle.message.specs.Refusals.{is_time, names_hold, settings_hold, ends_in_time, well_formed}
 use Rattle.message.specs.Table.{Every, Some, Name, Time, Formed}
 use Rattle.message.proofs.Formed.{settings, is-time, seconds-are}
 use Rattle.message.proofs.Seconds.{in-time}
@@ -115,11 +115,11 @@ module _ (s : List ℕ) where
   unfolding is_time
   time-to h = by (time_in s) refl h
     where
-      by : (t : Reading) → time_in s ≡ t → is_some t ≡ true → Time s
-      by (R.Time n) e h = let t = time-only s n e in record { moment = t.moment; real = t.real; text = t.text }
-      by R.Nothing e h = clash h refl
+      by : (t : Option ℕ) → time_in s ≡ t → is_some t ≡ true → Time s
+      by (P.Some n) e h = let t = time-only s n e in record { moment = t.moment; real = t.real; text = t.text }
+      by P.None e h = clash h refl
 
-  time-read : (t : Time s) → time_in s ≡ R.Time (seconds_of t.moment)
+  time-read : (t : Time s) → time_in s ≡ P.Some (seconds_of t.moment)
   time-read t = ap time_in t.text ∙ time-back t.moment t.real
 
   time-from : Time s → is_time s ≡ true

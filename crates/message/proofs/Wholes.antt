@@ -1,4 +1,5 @@
 -- Laws of a whole request and of its message: what it is to be well formed, how long the text is, and its parts.
+use Rattle.std.specs.Prelude.{Option, Some, None, is_some}
 use mathlib.Core.Path.{◌≡◌, refl, sym, ◌∙◌, ap, ap₂}
 use mathlib.Core.Bool.{true, false, and-eq-true_iff}
 use mathlib.Core.List.{List, [], ◌∷◌, ◌++◌, flatten, append-nil, append_assoc}
@@ -12,8 +13,6 @@ use borrow.Author.Tests.{leb-true, ne_eqb, eq-eqb}
 use Rattle.integers.specs.Tests.{◌and◌, joined, fails, clash}
 use Rattle.text.specs.Numbers.{ascii}
 use Rattle.text.proofs.Pieces.{length-flatten}
-use Rattle.calendar.specs.declared.Reading.{Reading}
-use Rattle.calendar.specs.declared.Reading.TheVariants.{Time, Nothing}
 use Rattle.calendar.specs.Calendar.{most_seconds, moment_of}
 use Rattle.calendar.specs.Text.{time_in, time_text}
 use Rattle.calendar.proofs.Back.{time-exactly, text-long}
@@ -24,7 +23,7 @@ use Rattle.message.specs.Request.{Request, count_of, seconds_in, seconds_at}
 use Rattle.message.specs.Message.{entry, texts, line_from, lines_as, message_as, message}
 use Rattle.message.specs.Parts.{header_lines, name_lines, time_lines}
 use Rattle.message.specs.Form.{name_holds}
-use Rattle.message.specs.Refusals.{is_some, is_time, names_hold, settings_hold, ends_in_time, well_formed, all_of, point_holds, points_hold}
+use Rattle.message.specs.Refusals.{is_time, names_hold, settings_hold, ends_in_time, well_formed, all_of, point_holds, points_hold}
 use Rattle.message.specs.Measures.{data_length}
 use Rattle.message.proofs.Runs.{as_long, texts-room}
 use Rattle.message.proofs.Formed.{settings}
@@ -71,9 +70,9 @@ short r w =
       frame = name-short (length (ascii "REF_FRAME")) r.frame e;
     }
 
-time-long-by : (s : List ℕ) (t : Reading) → time_in s ≡ t → is_some t ≡ true → length s ≡ 19
-time-long-by s (Time n) e h = ap length ((time-exactly s n).0 e).1 ∙ text-long (moment_of n)
-time-long-by s Nothing e h = clash h refl
+time-long-by : (s : List ℕ) (t : Option ℕ) → time_in s ≡ t → is_some t ≡ true → length s ≡ 19
+time-long-by s (Some n) e h = ap length ((time-exactly s n).0 e).1 ∙ text-long (moment_of n)
+time-long-by s None e h = clash h refl
 
 pub time-long : (s : List ℕ) → is_time s ≡ true → length s ≡ 19
 unfolding is_time

@@ -1,12 +1,10 @@
 -- Which number refuses a request, as tests in their order: 11, 6, 12. Definitions only.
-use Rattle.std.specs.Prelude.{ℕ, zero, suc, ◌+◌, ◌-◌, ◌%◌, ◌^◌, Bool, true, false, not, cond, List, [], ◌∷◌, leb, ltb, eqb, ℤ, pos, length, get_or}
+use Rattle.std.specs.Prelude.{is_some, ℕ, zero, suc, ◌+◌, ◌-◌, ◌%◌, ◌^◌, Bool, true, not, cond, List, [], ◌∷◌, leb, ltb, eqb, ℤ, pos, length, get_or}
 use Rattle.std.specs.Int.Signed.{le_z, lt_z}
 use Rattle.integers.specs.Tests.{◌and◌}
 use Rattle.rules.specs.Rules.{first_of}
 use Rattle.exact.specs.declared.Exact.{Exact}
 use Rattle.exact.specs.Numerator.{D, between}
-use Rattle.calendar.specs.declared.Reading.{Reading}
-use Rattle.calendar.specs.declared.Reading.TheVariants.{Time, Nothing}
 use Rattle.calendar.specs.Calendar.{most_seconds}
 use Rattle.calendar.specs.Text.{time_in}
 use Rattle.decimal.specs.Units.{position_units, velocity_units}
@@ -16,10 +14,6 @@ use Rattle.message.specs.Form.{fits}
 use Rattle.message.specs.Message.{message}
 
 -- ---- 11: names, times, tick and step, and some point
-
-abbrev pub is_some : Reading → Bool
-is_some (Time n) = true
-is_some Nothing = false
 
 unfoldable pub is_time : List ℕ → Bool
 is_time s = is_some (time_in s)

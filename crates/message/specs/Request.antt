@@ -1,9 +1,8 @@
 -- What a message is asked for, and what that says of its points: how many there are, when they are, and their exact values. Definitions only.
-use Rattle.std.specs.Prelude.{ℕ, ◌+◌, ◌*◌, ◌/◌, List, ℤ, pos, nat_abs, length, get_or}
+use Rattle.std.specs.Prelude.{unwrap_or, ℕ, ◌+◌, ◌*◌, ◌/◌, List, ℤ, pos, nat_abs, length, get_or}
 use Rattle.exact.specs.declared.Exact.{Exact}
-use Rattle.calendar.specs.declared.Reading.{Reading}
-use Rattle.calendar.specs.declared.Reading.TheVariants.{Time, Nothing}
 use Rattle.calendar.specs.Text.{time_in}
+use Rattle.message.specs.declared.Request as Handed
 
 pub record Request : Type 0 where
   -- five names, and two times as text
@@ -35,6 +34,11 @@ request originator object id center frame created start tick step points =
       points = points;
     }
 
+-- the request that the writer is handed
+abbrev pub request_of : Handed.Request → Request
+request_of r =
+    request r.originator.now r.object.now r.id.now r.center.now r.frame.now r.created.now r.start.now r.tick r.step r.points.now
+
 -- ---- points
 
 -- the whole points
@@ -51,13 +55,9 @@ value_at points at = record { whole = get_or points at (pos 0); part = nat_abs (
 
 -- ---- times, in seconds since 0001-01-01T00:00:00
 
-abbrev pub seconds_or : Reading → ℕ
-seconds_or (Time n) = n
-seconds_or Nothing = 0
-
--- of a text that is a time
+-- of a text that is a time, and 0 for one that is none
 unfoldable pub seconds_in : List ℕ → ℕ
-seconds_in s = seconds_or (time_in s)
+seconds_in s = unwrap_or (time_in s) 0
 
 -- of point i
 unfoldable pub seconds_at : Request → ℕ → ℕ

@@ -18,7 +18,7 @@ fn digits(n: u64) -> usize
     let mut left = n;
     let mut count: usize = 1;
     while 9 < left {
-        left = left / 10;
+        left /= 10;
         count += 1;
     }
     count
@@ -90,14 +90,12 @@ fn line_length(points: &[i64], i: usize, tick: u64, step: u64) -> usize
     ensures { (result ≡ length_if (point_holds tick step points.now i) (line_from tick step points.now 0 i)) × (result ≤ 134) }
 {
     let mut length = 20;
-    let mut k = 0;
-    while k < 6 {
+    for k in 0..6 {
         let more = value_length(points, i, k, tick, step);
         if more == 0 {
             return 0;
         }
         length += more;
-        k += 1;
     }
     length
 }
@@ -108,16 +106,13 @@ pub(crate) fn lines_length(points: &[i64], tick: u64, step: u64) -> usize
     requires step_value { settings_hold tick step ≡ true }
     ensures { (result ≡ data_length tick step points.now) × (result ≤ 2 ^ 56) }
 {
-    let count = points.len() / 12;
     let mut length = 0;
-    let mut i = 0;
-    while i < count {
+    for i in 0..points.len() / 12 {
         let more = line_length(points, i, tick, step);
         if more == 0 {
             return 0;
         }
         length += more;
-        i += 1;
     }
     length
 }

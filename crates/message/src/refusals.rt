@@ -1,9 +1,10 @@
 // The number that refuses a request.
-ghost use Rattle.std.specs.Prelude.{◌≡◌, ◌+◌, ◌-◌, ◌*◌, ◌/◌, ◌^◌, ◌≤◌, leb};
+ghost use Rattle.std.specs.Prelude.{◌≡◌, ◌+◌, ◌-◌, ◌*◌, ◌/◌, ◌^◌, ◌≤◌, leb, length};
 ghost use Rattle.calendar.specs.Calendar.{most_seconds};
-ghost use Rattle.message.specs.Request.{request};
+ghost use Rattle.message.specs.Request.{request_of};
 ghost use Rattle.message.specs.Refusals.{well_formed, refusal};
 
+use crate::Request;
 use crate::forms::{is_time, names_hold, seconds_in, settings_hold};
 use crate::measures::lines_length;
 
@@ -25,91 +26,41 @@ fn ends_in_time(first: u64, step: u64, last: u64) -> bool
     last <= (315_537_897_599 - first) / step
 }
 
-fn well_formed(
-    originator: &[u8],
-    object: &[u8],
-    id: &[u8],
-    center: &[u8],
-    frame: &[u8],
-    created: &[u8],
-    start: &[u8],
-    tick: u64,
-    step: u64,
-    points: &[i64],
-) -> bool
-    ensures { result ≡ well_formed (request originator.now object.now id.now center.now frame.now created.now start.now tick step points.now) }
+fn well_formed(r: &Request<'_>) -> bool
+    ensures { result ≡ well_formed (request_of r.now) }
 {
-    if !names_hold(originator, object, id, center, frame) {
-        return false;
-    }
-    if !is_time(created) {
-        return false;
-    }
-    if !is_time(start) {
-        return false;
-    }
-    if !settings_hold(tick, step) {
-        return false;
-    }
-    if points.len() == 0 {
-        return false;
-    }
-    ends_in_time(seconds_in(start), step, last_point(points.len()))
+    names_hold(r)
+        && is_time(r.created)
+        && is_time(r.start)
+        && settings_hold(r.tick, r.step)
+        && !r.points.is_empty()
+        && ends_in_time(seconds_in(r.start), r.step, last_point(r.points.len()))
 }
 
-// The length of a message from those of its names and of its data lines.
-fn whole_length(
-    originator: usize,
-    object: usize,
-    id: usize,
-    center: usize,
-    frame: usize,
-    lines: usize,
-) -> usize
-    requires { (originator ≤ 251) × (object ≤ 251) × (id ≤ 251) × (center ≤ 251) × (frame ≤ 251) × (lines ≤ 2 ^ 56) }
-    ensures { result ≡ 231 + (originator + object + id + center + frame) + lines }
+// The length of a message, whose data lines are so long.
+fn whole_length(r: &Request<'_>, lines: usize) -> usize
+    requires { (length r.now.originator.now ≤ 251) × (length r.now.object.now ≤ 251) × (length r.now.id.now ≤ 251) × (length r.now.center.now ≤ 251) × (length r.now.frame.now ≤ 251) × (lines ≤ 2 ^ 56) }
+    ensures { result ≡ 231 + (length r.now.originator.now + length r.now.object.now + length r.now.id.now + length r.now.center.now + length r.now.frame.now) + lines }
 {
-    231 + (originator + object + id + center + frame) + lines
+    let names = r.originator.len() + r.object.len() + r.id.len() + r.center.len() + r.frame.len();
+    231 + names + lines
 }
 
 // The room is compared with the exact length of the text.
-pub(crate) fn refusal_of(
-    room: usize,
-    originator: &[u8],
-    object: &[u8],
-    id: &[u8],
-    center: &[u8],
-    frame: &[u8],
-    created: &[u8],
-    start: &[u8],
-    tick: u64,
-    step: u64,
-    points: &[i64],
-) -> u8
-    ensures { result ≡ refusal (request originator.now object.now id.now center.now frame.now created.now start.now tick step points.now) room }
+pub(crate) fn refusal_of(room: usize, r: &Request<'_>) -> u8
+    ensures { result ≡ refusal (request_of r.now) room }
 {
-    if !well_formed(
-        originator, object, id, center, frame, created, start, tick, step, points,
-    ) {
+    if !well_formed(r) {
         return 11;
     }
-    if points.len() % 12 != 0 {
+    if r.points.len() % 12 != 0 {
         return 6;
     }
-    let data = lines_length(points, tick, step);
+    let data = lines_length(r.points, r.tick, r.step);
     if data == 0 {
         return 6;
     }
-    if room
-        < whole_length(
-            originator.len(),
-            object.len(),
-            id.len(),
-            center.len(),
-            frame.len(),
-            data,
-        )
-    {
+    if room < whole_length(r, data) {
         return 12;
     }
     0

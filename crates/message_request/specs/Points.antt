@@ -1,87 +1,72 @@
 -- The points of a request: lines that are `point` and twelve wholes, each after one space. Definitions only.
-use Rattle.std.specs.Prelude.{ℕ, zero, suc, ◌/◌, cond, List, [], ◌∷◌, ◌++◌, ltb, eqb, ℤ, pos, length, drop}
+use Rattle.std.specs.Prelude.{ℕ, zero, suc, cond, List, [], ◌∷◌, ◌++◌, ltb, ℤ, length, drop, Option, Some, None, Result, Ok, Err}
 use Rattle.text.specs.Numbers.{ascii}
 use Rattle.text.specs.Reading.{signed_at}
-use Rattle.text.specs.declared.Signed.{Signed}
-use Rattle.text.specs.declared.Signed.TheVariants.{Number, Nothing}
-use Rattle.message_request.specs.declared.Place.{Place}
-use Rattle.message_request.specs.declared.Outcome.{Outcome}
-use Rattle.message_request.specs.declared.Outcome.TheVariants.{Request, NoRequest, Full}
-use Rattle.message_request.specs.declared.points.Whole.{Whole}
-use Rattle.message_request.specs.declared.points.Wholes.{Wholes}
-use Rattle.message_request.specs.declared.points.Points.{Points}
-use Rattle.message_request.specs.Lines.{past_word, line_number, after}
+use Rattle.message_request.specs.declared.Unread.{Unread}
+use Rattle.message_request.specs.declared.Unread.TheVariants.{Line, Full}
+use Rattle.message_request.specs.Lines.{◌>>=◌, past_word, line_number}
 
--- ---- a number, which ends at a place, or at 0 where it is not there
+-- ---- numbers, and the place past them
 
-abbrev pub no_whole : Whole
-no_whole = record { value = pos 0; end = 0 }
+-- after one space
+unfoldable pub whole_at : List ℕ → ℕ → Option (ℤ × ℕ)
+whole_at text at = do
+  from ← past_word text at (ascii " ")
+  signed_at text from
 
-unfoldable pub whole_of : Signed → Whole
-whole_of (Number z end) = record { value = z; end = end }
-whole_of Nothing = no_whole
+-- so many
+unfoldable pub wholes_in : ℕ → List ℕ → ℕ → Option (List ℤ × ℕ)
+wholes_in zero text at = Some ([], at)
+wholes_in (suc k) text at = do
+  (value, next) ← whole_at text at
+  (values, end) ← wholes_in k text next
+  Some (value ∷ values, end)
 
--- after one space; nothing stands after a number that is not there
-unfoldable pub whole_at : List ℕ → ℕ → Whole
-whole_at text at =
-    after at no_whole (λ k.
-    after (past_word text k (ascii " ")) no_whole (λ from.
-    whole_of (signed_at text from)))
-
--- ---- so many numbers, and the place past them
-
-unfoldable pub wholes_in : ℕ → List ℕ → ℕ → List ℤ
-wholes_in zero text at = []
-wholes_in (suc k) text at = (whole_at text at).value ∷ wholes_in k text (whole_at text at).end
-
-unfoldable pub wholes_end : ℕ → List ℕ → ℕ → ℕ
-wholes_end zero text at = at
-wholes_end (suc k) text at = wholes_end k text (whole_at text at).end
-
-unfoldable pub wholes_at : List ℕ → ℕ → Wholes
-wholes_at text at = record { values = wholes_in 12 text at; end = wholes_end 12 text at }
+unfoldable pub wholes_at : List ℕ → ℕ → Option (List ℤ × ℕ)
+wholes_at text at = wholes_in 12 text at
 
 -- ---- a point at a place, with the place past its line
 
-unfoldable pub point_at : List ℕ → ℕ → Wholes
-point_at text at =
-    let wholes = wholes_at text (past_word text at (ascii "point")) in
-    record { values = wholes.values; end = after wholes.end 0 (λ end. past_word text end (ascii "\n")) }
+unfoldable pub point_at : List ℕ → ℕ → Option (List ℤ × ℕ)
+point_at text at = do
+  from ← past_word text at (ascii "point")
+  (values, end) ← wholes_at text from
+  next ← past_word text end (ascii "\n")
+  Some (values, next)
 
 -- ---- the points from a place on, as far as there is room
 
--- the numbers that are kept, and how the reading ends
+-- the numbers that are kept, and why the reading ends before the text
 pub record Kept : Type 0 where
   pub numbers : List ℤ
-  pub outcome : Outcome
+  pub unread : Option Unread
 
-abbrev pub nothing : Outcome → Kept
-nothing outcome = record { numbers = []; outcome = outcome }
+abbrev pub nothing : Option Unread → Kept
+nothing unread = record { numbers = []; unread = unread }
 
 -- the text is over, or its next line is no point, or it goes on with `more`
-unfoldable pub going_on : List ℕ → ℕ → Kept → Kept
-going_on text at more =
-    cond (ltb at (length text))
-    (cond (eqb (point_at text at).end 0) (nothing (NoRequest (line_number text at))) more)
-    (nothing Request)
+unfoldable pub going_on : List ℕ → ℕ → (List ℤ → ℕ → Kept) → Kept
+going_on text at more = cond (ltb at (length text)) (by (point_at text at)) (nothing None)
+  where
+    by : Option (List ℤ × ℕ) → Kept
+    by None = nothing (Some (Line (line_number text at)))
+    by (Some (values, next)) = more values next
 
 -- where there is room for so many points
 unfoldable pub kept_from : ℕ → List ℕ → ℕ → Kept
-kept_from zero text at = going_on text at (nothing Full)
+kept_from zero text at = going_on text at (λ values next. nothing (Some Full))
 kept_from (suc most) text at =
-    let point = point_at text at in
-    let more = kept_from most text point.end in
-    going_on text at (record { numbers = point.values ++ more.numbers; outcome = more.outcome })
+    going_on text at (λ values next.
+    let more = kept_from most text next in
+    record { numbers = values ++ more.numbers; unread = more.unread })
 
--- at a place that is good, where so many numbers can be kept
-unfoldable pub kept_at : List ℕ → Place → ℕ → Kept
-kept_at text p room =
-    cond p.good
-    (kept_from (room / 12) text p.at)
-    (nothing (NoRequest (line_number text p.at)))
+-- how many numbers are kept of a text that is read to its end
+abbrev pub read_by : Option Unread → ℕ → Result ℕ Unread
+read_by None count = Ok count
+read_by (Some unread) count = Err unread
 
-abbrev pub points_of : Kept → Points
-points_of kept = record { count = length kept.numbers; outcome = kept.outcome }
+abbrev pub points_of : Kept → Result ℕ Unread
+points_of kept = read_by kept.unread (length kept.numbers)
 
 -- the room afterwards: the numbers that are kept, and behind them what was there
 abbrev pub over : Kept → List ℤ → List ℤ

@@ -7,19 +7,18 @@ mod requests;
 
 pub use requests::{read_request, read_version};
 
-// Where a line stands, and whether all lines before it are as they have to be.
-#[derive(Clone, Copy)]
-pub struct Place {
-    pub at: usize,
-    pub good: bool,
-}
-
-// What follows the word of a line: its first place and the place past it; and where the next line stands.
+// What follows the word of a line: its first place and the place past it.
 #[derive(Clone, Copy)]
 pub struct Rest {
     pub from: usize,
     pub end: usize,
-    pub next: Place,
+}
+
+// The value of the line of an edition, where it stands first, and where the next line stands.
+#[derive(Clone, Copy)]
+pub struct Version {
+    pub value: Option<Rest>,
+    pub next: Result<usize, Unread>,
 }
 
 // What the first seven lines give.
@@ -34,29 +33,25 @@ pub struct Names {
     pub start: Rest,
 }
 
-// What the lines between the names and the points give, and where the points stand. Where no room is given it is 0.
+// What the lines between the names and the points give.
 #[derive(Clone, Copy)]
 pub struct Settings {
     pub tick: u64,
     pub step: u64,
-    pub roomed: bool,
-    pub room: u64,
-    pub next: Place,
+    pub room: Option<u64>,
 }
 
-// A text is a request, or it is none by the line of a number, or it has more points than there is room for.
-#[derive(Clone, Copy)]
-pub enum Outcome {
-    Request,
-    NoRequest(u64),
-    Full,
-}
-
-// What a text asks for; so many numbers are those of its points.
+// What a text asks for; so many numbers are those of its points. They lie in the room that the caller lends, since no heap is used.
 #[derive(Clone, Copy)]
 pub struct Asked {
-    pub outcome: Outcome,
     pub names: Names,
     pub settings: Settings,
     pub count: usize,
+}
+
+// Why a text is not read: the line of a number is not as it has to be, or there are more points than there is room for.
+#[derive(Clone, Copy, PartialEq, Eq)]
+pub enum Unread {
+    Line(u64),
+    Full,
 }

@@ -1,12 +1,12 @@
 -- The first bytes of a buffer: one line, and a message or the number that refuses it.
-use mathlib.Core.Path.{◌≡◌, refl, sym, ◌∙◌, ap}
-use mathlib.Core.Bool.{Bool, true, false, cond}
+use mathlib.Core.Path.{◌≡◌, refl, ◌∙◌, ap}
 use mathlib.Core.List.{List, ◌++◌}
 use Prim.Native.Nat.{ℕ, zero, suc, ◌+◌, ◌^◌, ◌≤◌, ◌<◌, min}
-use native.Mathlib.Nat.{min-eq_left, min-eq_right, min-le_right}
+use native.Mathlib.Nat.{min-le_right}
 use native.Mathlib.Omega.{arith}
 use lib.ListN.{length, take, drop, length-append}
 use lib.Seq.{take_at, take-append-le}
+use Rattle.std.specs.Prelude.{Option, Some, None, option_map, unwrap_or}
 use Rattle.text.specs.Numbers.{decimal}
 use Rattle.text.proofs.Digits.{length-decimal}
 use Rattle.text.specs.Places.{Wrote, written}
@@ -35,26 +35,13 @@ said {before} {text} {after} {end} w h =
 
 -- ---- the room for a message
 
-module _ (s : Settings) (held : ℕ) where
-  pub no-room-given : s.roomed ≡ false → held ≡ room_for s held
-  unfolding room_for
-  no-room-given g = sym (rw g refl)
-
-  pub room-given : s.roomed ≡ true → s.room < held → s.room ≡ room_for s held
-  unfolding room_for
-  room-given g h = sym (rw g (min-eq_left (omega arith)))
-
-  pub room-held : s.roomed ≡ true → held ≤ s.room → held ≡ room_for s held
-  unfolding room_for
-  room-held g h = sym (rw g (min-eq_right h))
-
-  pub room_within : room_for s held ≤ held
-  unfolding room_for
-  room_within = by s.roomed
-    where
-      by : (t : Bool) → cond t (min s.room held) held ≤ held
-      by true = min-le_right s.room held
-      by false = omega arith
+pub room_within : (s : Settings) (held : ℕ) → room_for s held ≤ held
+unfolding room_for
+room_within s held = by s.room
+  where
+    by : (room : Option ℕ) → unwrap_or (option_map (λ room. min room held) room) held ≤ held
+    by None = omega arith
+    by (Some room) = min-le_right room held
 
 -- ---- a message, in the first bytes of a buffer
 

@@ -1,7 +1,6 @@
 -- What `oem write` writes for a text: the message that it asks for, or one line. Definitions only.
-use Rattle.std.specs.Prelude.{ℕ, zero, suc, ◌-◌, ◌/◌, ◌≤◌, min, ◌≡◌, Bool, not, cond, eqb, ℤ, length, take, drop}
+use Rattle.std.specs.Prelude.{ℕ, zero, suc, ◌-◌, ◌/◌, ◌≤◌, min, ◌≡◌, cond, ℤ, length, take, drop, Option, Some, None, Result, Ok, Err, option_map, unwrap_or}
 use mathlib.Core.List.{List, [], ◌∷◌, flatten}
-use Rattle.integers.specs.Tests.{◌and◌}
 use Rattle.text.specs.Numbers.{ascii, decimal}
 use Rattle.calendar.specs.Text.{same_text}
 use Rattle.message.specs.declared.Edition.{Edition}
@@ -10,12 +9,12 @@ use Rattle.message.specs.Editions.{version_of}
 use Rattle.message.specs.Request as M
 use Rattle.message.specs.Message.{message_as}
 use Rattle.message.specs.Refusals.{refusal}
-use Rattle.message_request.specs.declared.Place.{Place}
 use Rattle.message_request.specs.declared.Rest.{Rest}
 use Rattle.message_request.specs.declared.Names.{Names}
 use Rattle.message_request.specs.declared.Settings.{Settings}
-use Rattle.message_request.specs.declared.Outcome.{Outcome}
-use Rattle.message_request.specs.declared.Outcome.TheVariants.{Request, NoRequest, Full}
+use Rattle.message_request.specs.declared.Asked.{Asked}
+use Rattle.message_request.specs.declared.Unread.{Unread}
+use Rattle.message_request.specs.declared.Unread.TheVariants.{Line, Full}
 use Rattle.message_request.specs.Requests.{version_line, asked_in, kept_in}
 
 -- the first n bytes of a buffer are a text
@@ -36,16 +35,16 @@ part_of text rest = take (rest.end - rest.from) (drop rest.from text)
 
 -- ---- the edition that the first line of a text names
 
--- it is the line of an edition, and names neither
-unfoldable pub is_neither : List ℕ → Rest → Bool
-is_neither text version =
-    not (eqb version.from 0)
-    and not (same_text (part_of text version) (version_of Two))
-    and not (same_text (part_of text version) (version_of Three))
+unfoldable pub edition_named : List ℕ → Option Edition
+edition_named value =
+    cond (same_text value (version_of Three))
+    (Some Three)
+    (cond (same_text value (version_of Two)) (Some Two) None)
 
 -- without that line it is version 2.0
-unfoldable pub edition_of : List ℕ → Rest → Edition
-edition_of text version = cond (same_text (part_of text version) (version_of Three)) Three Two
+unfoldable pub edition_of : List ℕ → Option Rest → Option Edition
+edition_of text None = Some Two
+edition_of text (Some value) = edition_named (part_of text value)
 
 -- ---- the request that the lines of a text make
 
@@ -66,7 +65,7 @@ request_of text names settings points =
 
 -- the room for its message: what the text allows of what is held
 unfoldable pub room_for : Settings → ℕ → ℕ
-room_for settings held = cond settings.roomed (min settings.room held) held
+room_for settings held = unwrap_or (option_map (λ room. min room held) settings.room) held
 
 -- ---- the answer
 
@@ -78,20 +77,23 @@ message_by (suc n) e r = refused_by (suc n)
 unfoldable pub message_or : Edition → M.Request → ℕ → List ℕ
 message_or e r room = message_by (refusal r room) e r
 
-abbrev pub answer_by : Outcome → ℕ → List ℕ → List ℕ
-answer_by Request most written = written
-answer_by (NoRequest line) most written = flatten (line_with (ascii "line ") line (ascii ": not a request\n"))
-answer_by Full most written = flatten (line_with (ascii "more than ") most (ascii " points\n"))
+abbrev pub answer_by : Result Asked Unread → ℕ → (Asked → List ℕ) → List ℕ
+answer_by (Ok asked) most written = written asked
+answer_by (Err (Line line)) most written = flatten (line_with (ascii "line ") line (ascii ": not a request\n"))
+answer_by (Err Full) most written = flatten (line_with (ascii "more than ") most (ascii " points\n"))
 
 -- to the lines from a place on, where so many numbers can be kept, and so many bytes are held for the message
-unfoldable pub answer_from : Edition → List ℕ → Place → ℕ → ℕ → List ℕ
-answer_from e text p room held =
-    let asked = asked_in text p room in
-    answer_by asked.outcome (room / 12)
-    (message_or e (request_of text asked.names asked.settings (kept_in text p room).numbers) (room_for asked.settings held))
+unfoldable pub answer_from : Edition → List ℕ → Result ℕ Unread → ℕ → ℕ → List ℕ
+answer_from e text from room held =
+    answer_by (asked_in text from room) (room / 12) (λ asked.
+    message_or e (request_of text asked.names asked.settings (kept_in text from room).numbers) (room_for asked.settings held))
 
 -- 17 is tested before every line of the request
+abbrev pub by_edition : Option Edition → (Edition → List ℕ) → List ℕ
+by_edition None written = refused_by 17
+by_edition (Some e) written = written e
+
 unfoldable pub answer_for : List ℕ → ℕ → ℕ → List ℕ
 answer_for text room held =
     let version = version_line text in
-    cond (is_neither text version) (refused_by 17) (answer_from (edition_of text version) text version.next room held)
+    by_edition (edition_of text version.value) (λ e. answer_from e text version.next room held)

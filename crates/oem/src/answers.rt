@@ -1,57 +1,59 @@
 // What is written for a text: the message that it asks for, or one line.
-ghost use Rattle.std.specs.Prelude.{◌≡◌, ◌+◌, ◌≤◌, length, take};
+ghost use Rattle.std.specs.Prelude.{◌≡◌, ◌+◌, ◌≤◌, length, IfSome};
 ghost use mathlib.Core.List.{flatten};
 ghost use Rattle.message.specs.Answer.{answer_as, room_as};
 ghost use Rattle.message_request.specs.Within.{Within, AllWithin};
-ghost use Rattle.oem.specs.Answers.{Says, line_with, part_of, is_neither, edition_of, request_of, room_for, message_or, answer_from, answer_for};
+ghost use Rattle.oem.specs.Answers.{Says, line_with, part_of, edition_named, edition_of, request_of, room_for, message_or, answer_from, answer_for};
 
 use calendar::same;
-use message::{Edition, Written};
-use message_request::{Asked, Names, Outcome, Place, Rest, Settings};
-use text::{put_decimal, put_word};
+use message::{Edition, Request, Written};
+use message_request::{Asked, Names, Rest, Settings, Unread};
+use text::Writer;
 
 // A line with a number in it, from the start of the buffer.
 fn put_line(out: &mut [u8], before: &[u8], n: u64, after: &[u8]) -> usize
     requires { length before.now + 20 + length after.now ≤ length out.old }
     ensures { Says out.new result (flatten (line_with before.now n after.now)) }
 {
-    let a = put_word(out, 0, before);
-    let b = put_decimal(out, a, n);
-    put_word(out, b, after)
+    let mut w = Writer::new(out);
+    w.put_word(before);
+    w.put_decimal(n);
+    w.put_word(after);
+    w.place()
 }
 
+// What follows the word of a line.
+#[tactic(auto, unfolding(crate::specs::Answers::part_of))]
 fn part(text: &[u8], rest: Rest) -> &[u8]
     requires { Within text.now rest }
     ensures { result.now ≡ part_of text.now rest }
 {
-    let from = rest.from;
-    let end = rest.end;
-    &text[from..end]
+    &text[rest.from..rest.end]
 }
 
-// The first line is that of an edition, and names neither.
-fn is_neither(text: &[u8], version: Rest) -> bool
-    requires { Within text.now version }
-    ensures { result ≡ is_neither text.now version }
+// The edition that a value names.
+#[tactic(auto, unfolding(crate::specs::Answers::edition_named, text::specs::Numbers::ascii))]
+fn edition_named(value: &[u8]) -> Option<Edition>
+    ensures { result ≡ edition_named value.now }
 {
-    if version.from == 0 {
-        return false;
-    }
-    let value = part(text, version);
-    if same(value, b"2.0") {
-        return false;
-    }
-    !same(value, b"3.0")
-}
-
-fn edition_of(text: &[u8], version: Rest) -> Edition
-    requires { Within text.now version }
-    ensures { result ≡ edition_of text.now version }
-{
-    if same(part(text, version), b"3.0") {
-        Edition::Three
+    if same(value, b"3.0") {
+        Some(Edition::Three)
+    } else if same(value, b"2.0") {
+        Some(Edition::Two)
     } else {
-        Edition::Two
+        None
+    }
+}
+
+// Without the line of an edition it is version 2.0.
+#[tactic(auto, unfolding(crate::specs::Answers::edition_of))]
+fn edition_of(text: &[u8], value: Option<Rest>) -> Option<Edition>
+    requires { IfSome value (Within text.now) }
+    ensures { result ≡ edition_of text.now value }
+{
+    match value {
+        Some(rest) => edition_named(part(text, rest)),
+        None => Some(Edition::Two),
     }
 }
 
@@ -67,30 +69,30 @@ fn put_message(
     requires { AllWithin text.now names }
     ensures { (result ≡ answer_as edition (request_of text.now names settings points.now) out.old) × (out.new ≡ room_as edition (request_of text.now names settings points.now) out.old) }
 {
-    message::write_edition(
-        out,
-        edition,
-        part(text, names.originator),
-        part(text, names.object),
-        part(text, names.id),
-        part(text, names.center),
-        part(text, names.frame),
-        part(text, names.created),
-        part(text, names.start),
-        settings.tick,
-        settings.step,
+    let request = Request {
+        originator: part(text, names.originator),
+        object: part(text, names.object),
+        id: part(text, names.id),
+        center: part(text, names.center),
+        frame: part(text, names.frame),
+        created: part(text, names.created),
+        start: part(text, names.start),
+        tick: settings.tick,
+        step: settings.step,
         points,
-    )
+    };
+    message::write_edition(out, edition, &request)
 }
 
+// The room for the message: what the request allows of what is held.
+#[tactic(auto, unfolding(crate::specs::Answers::room_for))]
 fn room_for(settings: Settings, held: usize) -> usize
     ensures { result ≡ room_for settings held }
 {
-    if !settings.roomed {
-        return held;
+    match settings.room {
+        Some(room) => (room as usize).min(held),
+        None => held,
     }
-    let room = settings.room as usize;
-    if room < held { room } else { held }
 }
 
 // A request is answered by its message, or by the number that refuses it.
@@ -99,23 +101,20 @@ fn answer_request(
     edition: Edition,
     text: &[u8],
     asked: Asked,
-    numbers: &[i64],
+    points: &[i64],
 ) -> usize
     requires all_within { AllWithin text.now asked.names }
-    requires count_in_bounds { (asked.count ≤ length numbers.now) × (64 ≤ length out.old) }
-    ensures { Says out.new result (message_or edition (request_of text.now asked.names asked.settings (take asked.count numbers.now)) (room_for asked.settings (length out.old))) }
+    requires room { 64 ≤ length out.old }
+    ensures { Says out.new result (message_or edition (request_of text.now asked.names asked.settings points.now) (room_for asked.settings (length out.old))) }
 {
-    let names = asked.names;
-    let settings = asked.settings;
-    let count = asked.count;
-    let room = room_for(settings, out.len());
+    let room = room_for(asked.settings, out.len());
     let written = put_message(
         &mut out[..room],
         edition,
         text,
-        names,
-        settings,
-        &numbers[..count],
+        asked.names,
+        asked.settings,
+        points,
     );
     if written.number == 0 {
         return written.length;
@@ -127,7 +126,7 @@ fn answer_request(
 fn answer_from(
     edition: Edition,
     text: &[u8],
-    from: Place,
+    from: Result<usize, Unread>,
     numbers: &mut [i64],
     out: &mut [u8],
 ) -> usize
@@ -135,12 +134,10 @@ fn answer_from(
     ensures { Says out.new result (answer_from edition text.now from (length numbers.old) (length out.old)) }
 {
     let most = (numbers.len() / 12) as u64;
-    let asked = message_request::read_request(text, from, numbers);
-    let outcome = asked.outcome;
-    match outcome {
-        Outcome::Request => answer_request(out, edition, text, asked, numbers),
-        Outcome::NoRequest(line) => put_line(out, b"line ", line, b": not a request\n"),
-        Outcome::Full => put_line(out, b"more than ", most, b" points\n"),
+    match message_request::read_request(text, from, numbers) {
+        Ok(asked) => answer_request(out, edition, text, asked, &numbers[..asked.count]),
+        Err(Unread::Line(line)) => put_line(out, b"line ", line, b": not a request\n"),
+        Err(Unread::Full) => put_line(out, b"more than ", most, b" points\n"),
     }
 }
 
@@ -150,9 +147,8 @@ pub(crate) fn answer(text: &[u8], numbers: &mut [i64], out: &mut [u8]) -> usize
     ensures { Says out.new result (answer_for text.now (length numbers.old) (length out.old)) }
 {
     let version = message_request::read_version(text);
-    if is_neither(text, version) {
-        return put_line(out, b"refused ", 17, b"\n");
+    match edition_of(text, version.value) {
+        Some(edition) => answer_from(edition, text, version.next, numbers, out),
+        None => put_line(out, b"refused ", 17, b"\n"),
     }
-    let edition = edition_of(text, version);
-    answer_from(edition, text, version.next, numbers, out)
 }

@@ -11,35 +11,13 @@ mod writing;
 
 use std::env::Env;
 
-fn is_write(word: &[u8]) -> bool {
-    word == b"write".as_slice()
-}
-
-fn is_read(word: &[u8]) -> bool {
-    word == b"read".as_slice()
-}
-
-fn is_mend(word: &[u8]) -> bool {
-    word == b"mend".as_slice()
-}
-
 fn main(rt: HostRuntime) {
     let mut word = [0u8; 4096];
-    let n = match rt.arg(1, &mut word) {
-        Ok(n) => n,
-        Err(_) => 0,
-    };
-    if is_write(&word[..n]) {
-        writing::run(&rt);
-        return;
+    let n = rt.arg(1, &mut word).unwrap_or(0);
+    match &word[..n] {
+        b"write" => writing::run(&rt),
+        b"read" => reading_messages::run(&rt),
+        b"mend" => mending::run(&rt),
+        _ => output::put_error(&rt, b"oem: the first argument is write, read or mend\n"),
     }
-    if is_read(&word[..n]) {
-        reading_messages::run(&rt);
-        return;
-    }
-    if is_mend(&word[..n]) {
-        mending::run(&rt);
-        return;
-    }
-    output::put_error(&rt, b"oem: the first argument is write, read or mend\n");
 }

@@ -1,26 +1,34 @@
 // The program's arguments as numbers.
-use std::env::{Env, FillError};
-use text::Unsigned;
+ghost use Rattle.std.specs.Prelude.{◌≤◌, IfSome};
 
-// Argument i, if it is a number and nothing else; a number past all bounds if not.
-pub(crate) fn number(rt: &HostRuntime, i: usize) -> u64 {
+use std::env::{Env, FillError};
+
+// Argument i, if it is a number and nothing else.
+fn number(rt: &HostRuntime, i: usize) -> Option<u64> {
     let mut buf = [0u8; 16];
-    let n = match rt.arg(i, &mut buf) {
-        Ok(n) => n,
-        Err(_) => 0,
-    };
-    let found = text::read_decimal(&buf[..n], 0);
-    match found {
-        Unsigned::Number(value, end) => { if end == n { value } else { 1_000_000_000 } }
-        Unsigned::Nothing => 1_000_000_000,
-    }
+    let n = rt.arg(i, &mut buf).unwrap_or(0);
+    let (value, end) = text::read_decimal(&buf[..n], 0)?;
+    if end == n { Some(value) } else { None }
 }
 
 // Whether there is an argument i, of any length.
-pub(crate) fn is_given(rt: &HostRuntime, i: usize) -> bool {
+fn is_given(rt: &HostRuntime, i: usize) -> bool {
     let mut buf = [0u8; 16];
-    match rt.arg(i, &mut buf) {
-        Err(FillError::NotPresent) => false,
-        _ => true,
+    !matches!(rt.arg(i, &mut buf), Err(FillError::NotPresent))
+}
+
+// P and STEPS, where two arguments are given and are numbers to run with.
+pub(crate) fn asked(rt: &HostRuntime) -> Option<(usize, u64)>
+    ensures { IfSome result (λ p. p.0 ≤ 9) }
+{
+    if !is_given(rt, 2) || is_given(rt, 3) {
+        return None;
+    }
+    let points = number(rt, 1)?;
+    let steps = number(rt, 2)?;
+    if (1..=9).contains(&points) && steps <= 1_000_000 {
+        Some((points as usize, steps))
+    } else {
+        None
     }
 }

@@ -3,10 +3,7 @@ use steps::{ReportedMotion, ReportedPoint};
 
 // A report is a number; the first test is for the checker alone.
 fn bits_of(x: f64) -> u64 {
-    if x != x {
-        return 0;
-    }
-    f64::to_bits(x)
+    if x.is_nan() { 0 } else { x.to_bits() }
 }
 
 fn with_motion(sum: u64, m: ReportedMotion) -> u64 {

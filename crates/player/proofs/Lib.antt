@@ -1,6 +1,5 @@
--- What more than one proof of the crate cites: the floats of a line (`Floats`), the room of a line that is written (`Written`),
+-- What more than one proof of the crate cites: the room of a line that is written (`Written`),
 -- how long a sentence is (`Sentences`), and that its change is exact (`Reasons`).
-mod Floats
 mod Written
 mod Sentences
 mod Reasons

@@ -1,31 +1,20 @@
 // The answer to one line of a script.
-ghost use Rattle.std.specs.Prelude.{◌+◌, ◌≤◌, length};
+ghost use Rattle.std.specs.Prelude.{◌+◌, ◌≤◌, length, IfSome};
 
 use crate::calls;
 use crate::runs::answer_run;
 use epoch_steps::AfterRound;
-use script::Name;
+use script::{Name, Words};
 use session::Session;
 use steps::Answer;
+use text::Writer;
 
-// The record after a line, and the place past its answer; a line that is no call has none. The record is written after it, or not.
+// The record after a line, and the place past its answer. The record is written after it, or not.
 #[derive(Clone, Copy)]
 pub(crate) struct Answered {
     pub(crate) session: Session,
     pub(crate) end: usize,
-    pub(crate) call: bool,
     pub(crate) recorded: bool,
-}
-
-pub(crate) fn no_call(s: Session, at: usize) -> Answered
-    ensures { result.end ≤ at + 3411 }
-{
-    Answered {
-        session: s,
-        end: at,
-        call: false,
-        recorded: false,
-    }
 }
 
 // An answer, beside the record after it.
@@ -34,11 +23,12 @@ fn put_answer(out: &mut [u8], at: usize, name: &[u8], answer: Answer, session: S
     requires at_in_bounds { at + 3411 ≤ length out.old }
     ensures { result.end ≤ at + 3411 }
 {
-    let end = script::put_answer(out, at, name, answer);
+    let mut w = Writer::at(out, at);
+    script::put_answer(&mut w, name, answer);
+    let end = w.place();
     Answered {
         session,
         end,
-        call: true,
         recorded: true,
     }
 }
@@ -50,55 +40,55 @@ fn put_round(out: &mut [u8], at: usize, name: &[u8], after: AfterRound) -> Answe
     ensures { result.end ≤ at + 3411 }
 {
     let answer = answers::round_answer(after.answer);
-    let session = after.session;
-    let end = script::put_round(out, at, name, answer);
+    let mut w = Writer::at(out, at);
+    script::put_round(&mut w, name, answer);
+    let end = w.place();
     Answered {
-        session,
+        session: after.session,
         end,
-        call: true,
         recorded: true,
     }
 }
 
-fn answer_open(out: &mut [u8], at: usize, s: Session, line: &[u8]) -> Answered
+fn answer_open(out: &mut [u8], at: usize, s: Session, line: &[u8]) -> Option<Answered>
     requires { at + 3411 ≤ length out.old }
-    ensures { result.end ≤ at + 3411 }
+    ensures { IfSome result (λ answered. answered.end ≤ at + 3411) }
 {
-    let read = script::read_open(line, 4);
-    if read.floats.end != line.len() {
-        return no_call(s, at);
+    let mut words = Words::new(line, 4);
+    match script::read_open(&mut words) {
+        Some(call) if words.is_over() => {
+            let after = calls::open(s, &call);
+            let answer = answers::opening_answer(after.answer);
+            Some(put_answer(out, at, b"open", answer, after.session))
+        }
+        _ => None,
     }
-    let after = calls::open(s, read);
-    let opening = after.answer;
-    put_answer(
-        out,
-        at,
-        b"open",
-        answers::opening_answer(opening),
-        after.session,
-    )
 }
 
-fn answer_start(out: &mut [u8], at: usize, s: Session, line: &[u8]) -> Answered
+fn answer_start(out: &mut [u8], at: usize, s: Session, line: &[u8]) -> Option<Answered>
     requires { at + 3411 ≤ length out.old }
-    ensures { result.end ≤ at + 3411 }
+    ensures { IfSome result (λ answered. answered.end ≤ at + 3411) }
 {
-    let read = script::read_open(line, 5);
-    if read.floats.end != line.len() {
-        return no_call(s, at);
+    let mut words = Words::new(line, 5);
+    match script::read_open(&mut words) {
+        Some(call) if words.is_over() => {
+            Some(put_round(out, at, b"start", calls::start(s, &call)))
+        }
+        _ => None,
     }
-    put_round(out, at, b"start", calls::start(s, read))
 }
 
-fn answer_refine(out: &mut [u8], at: usize, s: Session, line: &[u8]) -> Answered
+fn answer_refine(out: &mut [u8], at: usize, s: Session, line: &[u8]) -> Option<Answered>
     requires { at + 3411 ≤ length out.old }
-    ensures { result.end ≤ at + 3411 }
+    ensures { IfSome result (λ answered. answered.end ≤ at + 3411) }
 {
-    let read = script::read_floats(line, 6);
-    if read.end != line.len() {
-        return no_call(s, at);
+    let mut words = Words::new(line, 6);
+    match script::read_floats(&mut words) {
+        Some(floats) if words.is_over() => {
+            Some(put_round(out, at, b"refine", calls::refine(s, &floats)))
+        }
+        _ => None,
     }
-    put_round(out, at, b"refine", calls::refine(s, read))
 }
 
 fn answer_predict(out: &mut [u8], at: usize, s: Session) -> Answered
@@ -106,33 +96,23 @@ fn answer_predict(out: &mut [u8], at: usize, s: Session) -> Answered
     ensures { result.end ≤ at + 3411 }
 {
     let after = stepper::owned::predict(s);
-    let prediction = after.answer;
-    put_answer(
-        out,
-        at,
-        b"predict",
-        answers::prediction_answer(prediction),
-        after.session,
-    )
+    let answer = answers::prediction_answer(after.answer);
+    put_answer(out, at, b"predict", answer, after.session)
 }
 
-fn answer_correct(out: &mut [u8], at: usize, s: Session, line: &[u8]) -> Answered
+fn answer_correct(out: &mut [u8], at: usize, s: Session, line: &[u8]) -> Option<Answered>
     requires { at + 3411 ≤ length out.old }
-    ensures { result.end ≤ at + 3411 }
+    ensures { IfSome result (λ answered. answered.end ≤ at + 3411) }
 {
-    let read = script::read_sample(line, 7);
-    if read.end != line.len() {
-        return no_call(s, at);
+    let mut words = Words::new(line, 7);
+    match script::read_sample(&mut words) {
+        Some(sample) if words.is_over() => {
+            let after = stepper::owned::correct(s, sample);
+            let answer = answers::correction_answer(after.answer);
+            Some(put_answer(out, at, b"correct", answer, after.session))
+        }
+        _ => None,
     }
-    let after = stepper::owned::correct(s, read.value);
-    let correction = after.answer;
-    put_answer(
-        out,
-        at,
-        b"correct",
-        answers::correction_answer(correction),
-        after.session,
-    )
 }
 
 fn answer_withdraw(out: &mut [u8], at: usize, s: Session) -> Answered
@@ -140,32 +120,28 @@ fn answer_withdraw(out: &mut [u8], at: usize, s: Session) -> Answered
     ensures { result.end ≤ at + 3411 }
 {
     let after = stepper::owned::withdraw(s);
-    let withdrawal = after.answer;
-    put_answer(
-        out,
-        at,
-        b"withdraw",
-        answers::withdrawal_answer(withdrawal),
-        after.session,
-    )
+    let answer = answers::withdrawal_answer(after.answer);
+    put_answer(out, at, b"withdraw", answer, after.session)
 }
 
 // A question why changes nothing, and no record follows its answer.
-fn answer_why(out: &mut [u8], at: usize, s: Session, line: &[u8]) -> Answered
+fn answer_why(out: &mut [u8], at: usize, s: Session, line: &[u8]) -> Option<Answered>
     requires { at + 3411 ≤ length out.old }
-    ensures { result.end ≤ at + 3411 }
+    ensures { IfSome result (λ answered. answered.end ≤ at + 3411) }
 {
-    let read = script::read_sample(line, 3);
-    if read.end != line.len() {
-        return no_call(s, at);
-    }
-    let sample = read.value;
-    let end = script::put_why(out, at, reasons::explain(s, sample));
-    Answered {
-        session: s,
-        end,
-        call: true,
-        recorded: false,
+    let mut words = Words::new(line, 3);
+    match script::read_sample(&mut words) {
+        Some(sample) if words.is_over() => {
+            let mut w = Writer::at(out, at);
+            script::put_why(&mut w, reasons::explain(s, sample));
+            let end = w.place();
+            Some(Answered {
+                session: s,
+                end,
+                recorded: false,
+            })
+        }
+        _ => None,
     }
 }
 
@@ -174,64 +150,68 @@ fn answer_save(out: &mut [u8], at: usize, s: Session) -> Answered
     requires { at + 3411 ≤ length out.old }
     ensures { result.end ≤ at + 3411 }
 {
-    let end = script::put_save(out, at, s);
+    let mut w = Writer::at(out, at);
+    script::put_save(&mut w, s);
+    let end = w.place();
     Answered {
         session: s,
         end,
-        call: true,
         recorded: false,
     }
 }
 
-fn answer_load(out: &mut [u8], at: usize, s: Session, line: &[u8]) -> Answered
+fn answer_load(out: &mut [u8], at: usize, s: Session, line: &[u8]) -> Option<Answered>
     requires { at + 3411 ≤ length out.old }
-    ensures { result.end ≤ at + 3411 }
+    ensures { IfSome result (λ answered. answered.end ≤ at + 3411) }
 {
-    let read = script::read_load(line, 4);
-    if read.end != line.len() {
-        return no_call(s, at);
-    }
-    let end = script::put_load(out, at, read.number);
-    let session = calls::load(s, read);
-    Answered {
-        session,
-        end,
-        call: true,
-        recorded: true,
+    let mut words = Words::new(line, 4);
+    match script::read_load(&mut words) {
+        Some(read) if words.is_over() => {
+            let mut w = Writer::at(out, at);
+            script::put_load(&mut w, read.number);
+            let end = w.place();
+            let session = calls::load(s, read);
+            Some(Answered {
+                session,
+                end,
+                recorded: true,
+            })
+        }
+        _ => None,
     }
 }
 
 // A record that is filled in is not answered.
-fn filled(at: usize, line: &[u8]) -> Answered
-    ensures { result.end ≤ at + 3411 }
+fn filled(at: usize, line: &[u8]) -> Option<Answered>
+    ensures { IfSome result (λ answered. answered.end ≤ at + 3411) }
 {
-    let read = script::read_session(line, 4);
-    let session = read.session;
-    Answered {
-        session,
-        end: at,
-        call: read.end == line.len(),
-        recorded: true,
+    let mut words = Words::new(line, 4);
+    match script::read_session(&mut words) {
+        Some(session) if words.is_over() => Some(Answered {
+            session,
+            end: at,
+            recorded: true,
+        }),
+        _ => None,
     }
 }
 
-pub(crate) fn answer_line(out: &mut [u8], at: usize, s: Session, line: &[u8]) -> Answered
+// A line that is no call has no answer.
+pub(crate) fn answer_line(out: &mut [u8], at: usize, s: Session, line: &[u8]) -> Option<Answered>
     requires { at + 3411 ≤ length out.old }
-    ensures { result.end ≤ at + 3411 }
+    ensures { IfSome result (λ answered. answered.end ≤ at + 3411) }
 {
-    let name = script::name_of(line);
-    match name {
+    match script::name_of(line)? {
         Name::Open => answer_open(out, at, s, line),
-        Name::Predict => answer_predict(out, at, s),
+        Name::Predict => Some(answer_predict(out, at, s)),
         Name::Correct => answer_correct(out, at, s, line),
-        Name::Withdraw => answer_withdraw(out, at, s),
+        Name::Withdraw => Some(answer_withdraw(out, at, s)),
         Name::Fill => filled(at, line),
         Name::Start => answer_start(out, at, s, line),
         Name::Refine => answer_refine(out, at, s, line),
         Name::Why => answer_why(out, at, s, line),
-        Name::Save => answer_save(out, at, s),
+        Name::Save => Some(answer_save(out, at, s)),
         Name::Load => answer_load(out, at, s, line),
         Name::Run => answer_run(out, at, s, line),
-        Name::Nothing => no_call(s, at),
     }
 }

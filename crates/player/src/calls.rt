@@ -1,64 +1,50 @@
 // The calls of lines with floats, an opening, a first round and a later one, and of a line with bytes, a loading.
-ghost use Rattle.std.specs.Prelude.{◌≡◌, ◌≤◌};
+ghost use Rattle.std.specs.Prelude.{◌≡◌};
 ghost use Rattle.player.specs.Calls.{opened_by, started_by, refined_by, loaded_by};
 
 use epoch_steps::AfterRound;
-use script::{Floats, LoadCall, OpenCall};
+use image::Loaded;
+use script::{OpenCall, Series};
 use session::Session;
 use steps::AfterOpen;
 
-pub(crate) fn open(s: Session, call: OpenCall) -> AfterOpen
-    requires { call.floats.count ≤ 64 }
-    ensures { result ≡ opened_by call }
+pub(crate) fn open(s: Session, call: &OpenCall) -> AfterOpen
+    ensures { result ≡ opened_by call.now }
 {
     let settings = call.settings;
-    let floats = call.floats;
-    let values = floats.values;
-    let count = floats.count;
-    let tolerances = settings.tolerances;
-    let point = settings.point;
     stepper::owned::open(
         s,
         settings.points,
-        tolerances,
+        settings.tolerances,
         settings.limit,
-        point,
-        &values[..count],
+        call.point,
+        call.floats.as_slice(),
     )
 }
 
-pub(crate) fn start(s: Session, call: OpenCall) -> AfterRound
-    requires { call.floats.count ≤ 64 }
-    ensures { result ≡ started_by call }
+pub(crate) fn start(s: Session, call: &OpenCall) -> AfterRound
+    ensures { result ≡ started_by call.now }
 {
     let settings = call.settings;
-    let floats = call.floats;
-    let values = floats.values;
-    let count = floats.count;
-    let tolerances = settings.tolerances;
-    let epoch = settings.point;
     stepper::owned::start(
         s,
         settings.points,
-        tolerances,
+        settings.tolerances,
         settings.limit,
-        epoch,
-        &values[..count],
+        call.point,
+        call.floats.as_slice(),
     )
 }
 
-pub(crate) fn refine(s: Session, floats: Floats) -> AfterRound
-    requires { floats.count ≤ 64 }
-    ensures { result ≡ refined_by s floats }
+pub(crate) fn refine(s: Session, floats: &Series<f64, 64>) -> AfterRound
+    ensures { result ≡ refined_by s floats.now }
 {
-    let values = floats.values;
-    let count = floats.count;
-    stepper::owned::refine(s, &values[..count])
+    stepper::owned::refine(s, floats.as_slice())
 }
 
-pub(crate) fn load(s: Session, call: LoadCall) -> Session
-    ensures { result ≡ loaded_by s call }
+#[tactic(auto, unfolding(crate::specs::Calls::loaded_by))]
+pub(crate) fn load(s: Session, read: Loaded) -> Session
+    ensures { result ≡ loaded_by s read }
 {
-    let session = call.session;
-    if call.number == 0 { session } else { s }
+    if read.number == 0 { read.session } else { s }
 }

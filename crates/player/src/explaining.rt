@@ -1,18 +1,24 @@
 // What is said of one line of a script, in the voice of sentences.
-ghost use Rattle.std.specs.Prelude.{◌+◌, ◌≤◌, length};
+ghost use Rattle.std.specs.Prelude.{◌+◌, ◌≤◌, length, IfSome};
 
 use crate::answering::{Answered, answer_line};
-use script::Name;
+use script::{Name, Words};
 use session::Session;
+use text::Writer;
 
 // Why the correction of a line, counted from 1, is answered as it is.
 fn explain_correct(out: &mut [u8], at: usize, s: Session, line: &[u8], number: u64) -> usize
     requires { at + 3411 ≤ length out.old }
     ensures { result ≤ at + 3411 }
 {
-    let read = script::read_sample(line, 7);
-    let sample = read.value;
-    sentences::put_sentence(out, at, number, s, reasons::explain(s, sample))
+    match script::read_sample(&mut Words::new(line, 7)) {
+        Some(sample) => {
+            let mut w = Writer::at(out, at);
+            sentences::put_sentence(&mut w, number, s, reasons::explain(s, sample));
+            w.place()
+        }
+        None => at,
+    }
 }
 
 // Only a correction is explained.
@@ -20,20 +26,10 @@ fn explain_call(out: &mut [u8], at: usize, s: Session, line: &[u8], number: u64)
     requires { at + 3411 ≤ length out.old }
     ensures { result ≤ at + 3411 }
 {
-    let name = script::name_of(line);
-    match name {
-        Name::Open => at,
-        Name::Predict => at,
-        Name::Correct => explain_correct(out, at, s, line, number),
-        Name::Withdraw => at,
-        Name::Fill => at,
-        Name::Start => at,
-        Name::Refine => at,
-        Name::Why => at,
-        Name::Save => at,
-        Name::Load => at,
-        Name::Run => at,
-        Name::Nothing => at,
+    if matches!(script::name_of(line), Some(Name::Correct)) {
+        explain_correct(out, at, s, line, number)
+    } else {
+        at
     }
 }
 
@@ -44,20 +40,15 @@ pub(crate) fn explain_line(
     s: Session,
     line: &[u8],
     number: u64,
-) -> Answered
+) -> Option<Answered>
     requires { at + 3411 ≤ length out.old }
-    ensures { result.end ≤ at + 3411 }
+    ensures { IfSome result (λ answered. answered.end ≤ at + 3411) }
 {
-    let answered = answer_line(out, at, s, line);
-    if !answered.call {
-        return answered;
-    }
-    let session = answered.session;
+    let answered = answer_line(out, at, s, line)?;
     let end = explain_call(out, at, s, line, number);
-    Answered {
-        session,
+    Some(Answered {
+        session: answered.session,
         end,
-        call: true,
         recorded: false,
-    }
+    })
 }

@@ -1,12 +1,14 @@
 // The lines of a piece of input, answered one after another.
-ghost use Rattle.std.specs.Prelude.{◌≡◌, ◌+◌, ◌≤◌, length};
+ghost use Rattle.std.specs.Prelude.{◌≡◌, ◌+◌, ◌<◌, ◌≤◌, length, IfSome};
 
 use crate::Voice;
 use crate::answering::{Answered, answer_line};
 use crate::explaining::explain_line;
 use session::Session;
+use text::Writer;
 
 // How far a script is: the record, the lines so far, the bytes of input used, the bytes of output to be written, and whether the script is over.
+// `over` stands beside them and is no Option: what is written so far goes out also where the script is over.
 #[derive(Clone, Copy)]
 pub(crate) struct Progress {
     pub(crate) session: Session,
@@ -16,21 +18,14 @@ pub(crate) struct Progress {
     pub(crate) over: bool,
 }
 
-// The place of the first newline from `from` on, and `end` where there is none before it.
-fn newline(input: &[u8], from: usize, end: usize) -> usize
+// The place of the first newline from `from` on, before `end`.
+fn newline(input: &[u8], from: usize, end: usize) -> Option<usize>
     requires from_le_end { from ≤ end }
     requires end_in_bounds { end ≤ length input.now }
-    ensures lower_bound { from ≤ result }
-    ensures upper_bound { result ≤ end }
+    ensures { IfSome result (λ i. (from ≤ i) × (i < end)) }
 {
-    let mut i = from;
-    while i < end {
-        if input[i] == 10 {
-            return i;
-        }
-        i += 1;
-    }
-    end
+    let i = input[from..end].iter().position(|byte| *byte == b'\n')?;
+    Some(from + i)
 }
 
 // Writes the first bytes of the output: whether they were taken.
@@ -40,26 +35,16 @@ pub(crate) fn write_out(rt: &HostRuntime, out: &[u8], written: usize) -> bool
     rt.write_all(&out[..written]).is_ok()
 }
 
-// Output with room for an answer: what it holds is written where it leaves none.
-fn make_room(rt: &HostRuntime, out: &[u8], written: usize) -> Room
+// A place in the output with room for an answer: what it holds is written where it leaves none. There is no place where that is not taken.
+fn make_room(rt: &HostRuntime, out: &[u8], written: usize) -> Option<usize>
     requires written_in_bounds { written ≤ length out.now }
     requires in_bounds { 8192 ≤ length out.now }
-    ensures { result.at + 8192 ≤ length out.now }
+    ensures { IfSome result (λ at. at + 8192 ≤ length out.now) }
 {
     if written + 8192 <= out.len() {
-        return Room {
-            at: written,
-            taken: true,
-        };
+        return Some(written);
     }
-    let taken = write_out(rt, out, written);
-    Room { at: 0, taken }
-}
-
-#[derive(Clone, Copy)]
-struct Room {
-    at: usize,
-    taken: bool,
+    write_out(rt, out, written).then_some(0)
 }
 
 // A script that ends here, at a line that is no call.
@@ -68,7 +53,9 @@ fn stop(out: &mut [u8], at: usize, s: Session, count: u64, used: usize) -> Progr
     ensures written_in_bounds { result.written ≤ length out.old }
     ensures used_value { result.used ≡ used }
 {
-    let written = script::put_no_call(out, at, count);
+    let mut w = Writer::at(out, at);
+    script::put_no_call(&mut w, count);
+    let written = w.place();
     Progress {
         session: s,
         count,
@@ -86,9 +73,9 @@ fn tell_line(
     s: Session,
     line: &[u8],
     number: u64,
-) -> Answered
+) -> Option<Answered>
     requires { at + 3411 ≤ length out.old }
-    ensures { result.end ≤ at + 3411 }
+    ensures { IfSome result (λ answered. answered.end ≤ at + 3411) }
 {
     match voice {
         Voice::Answers => answer_line(out, at, s, line),
@@ -101,11 +88,13 @@ fn tell_record(out: &mut [u8], answered: Answered) -> usize
     requires { answered.end + 1522 ≤ length out.old }
     ensures { result ≤ answered.end + 1522 }
 {
-    if !answered.recorded {
-        return answered.end;
+    if answered.recorded {
+        let mut w = Writer::at(out, answered.end);
+        script::put_record(&mut w, answered.session);
+        w.place()
+    } else {
+        answered.end
     }
-    let session = answered.session;
-    script::put_record(out, answered.end, session)
 }
 
 // One line, which ends before `next`.
@@ -122,10 +111,9 @@ fn take_line(
     ensures written_in_bounds_2 { result.written ≤ length out.old }
     ensures used_value { result.used ≡ next }
 {
-    let room = make_room(rt, out, p.written);
     let s = p.session;
-    let count = std::num::wrapping_add_u64(p.count, 1);
-    if !room.taken {
+    let count = p.count.wrapping_add(1);
+    let Some(at) = make_room(rt, out, p.written) else {
         return Progress {
             session: s,
             count,
@@ -133,15 +121,13 @@ fn take_line(
             written: 0,
             over: true,
         };
-    }
-    let answered = tell_line(voice, out, room.at, s, line, count);
-    if !answered.call {
-        return stop(out, room.at, s, count, next);
-    }
-    let session = answered.session;
+    };
+    let Some(answered) = tell_line(voice, out, at, s, line, count) else {
+        return stop(out, at, s, count, next);
+    };
     let written = tell_record(out, answered);
     Progress {
-        session,
+        session: answered.session,
         count,
         used: next,
         written,
@@ -171,17 +157,11 @@ fn answer_lines(
         written: 0,
         over: false,
     };
-    let mut from: usize = 0;
-    while from < end {
-        let stop = newline(input, from, end);
-        if stop == end {
-            break;
-        }
-        p = take_line(rt, voice, out, p, &input[from..stop], stop + 1);
+    while let Some(stop) = newline(input, p.used, end) {
+        p = take_line(rt, voice, out, p, &input[p.used..stop], stop + 1);
         if p.over {
             break;
         }
-        from = stop + 1;
     }
     p
 }
@@ -195,13 +175,13 @@ fn finish(rt: &HostRuntime, out: &mut [u8], p: Progress, got: usize, end: usize)
     ensures used_le_end_2 { result.used ≤ end }
 {
     let rest = end - p.used;
-    if p.over | (rest == 0) {
-        return ended(p, got == 0);
+    if p.over || rest == 0 {
+        ended(p, got == 0)
+    } else if got == 0 || 4096 < rest {
+        no_line(rt, out, p)
+    } else {
+        p
     }
-    if (got == 0) | (4096 < rest) {
-        return no_line(rt, out, p);
-    }
-    p
 }
 
 // Whether the input is over is kept.
@@ -209,13 +189,9 @@ fn ended(p: Progress, over: bool) -> Progress
     ensures written_value { result.written ≡ p.written }
     ensures used_value { result.used ≡ p.used }
 {
-    let session = p.session;
     Progress {
-        session,
-        count: p.count,
-        used: p.used,
-        written: p.written,
-        over: p.over | over,
+        over: p.over || over,
+        ..p
     }
 }
 
@@ -225,15 +201,8 @@ fn no_line(rt: &HostRuntime, out: &mut [u8], p: Progress) -> Progress
     ensures written_in_bounds_2 { result.written ≤ length out.old }
     ensures used_value { result.used ≡ p.used }
 {
-    let room = make_room(rt, out, p.written);
-    let s = p.session;
-    stop(
-        out,
-        room.at,
-        s,
-        std::num::wrapping_add_u64(p.count, 1),
-        p.used,
-    )
+    let at = make_room(rt, out, p.written).unwrap_or(0);
+    stop(out, at, p.session, p.count.wrapping_add(1), p.used)
 }
 
 // The answers to a piece of input: `got` new bytes, `end` with those that were held.

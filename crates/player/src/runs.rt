@@ -1,19 +1,17 @@
 // The answer to the line of a run.
-ghost use Rattle.std.specs.Prelude.{◌≡◌, ◌+◌, ◌≤◌, length};
+ghost use Rattle.std.specs.Prelude.{◌≡◌, ◌+◌, ◌≤◌, length, IfSome};
 ghost use Rattle.player.specs.Calls.{ran_by};
 
-use crate::answering::{Answered, no_call};
+use crate::answering::Answered;
 use running::AfterRun;
-use script::RunCall;
+use script::{RunCall, Words};
 use session::Session;
+use text::Writer;
 
-fn run(s: Session, call: RunCall) -> AfterRun
-    requires { call.count ≤ 192 }
-    ensures { result ≡ ran_by s call }
+fn run(s: Session, call: &RunCall) -> AfterRun
+    ensures { result ≡ ran_by s call.now }
 {
-    let values = call.values;
-    let count = call.count;
-    stepper::owned::run(s, &values[..count], call.wanted)
+    stepper::owned::run(s, call.floats.as_slice(), call.wanted)
 }
 
 // The answer, beside the record after it.
@@ -22,23 +20,23 @@ fn put_run(out: &mut [u8], at: usize, after: AfterRun) -> Answered
     ensures { result.end ≤ at + 3411 }
 {
     let answer = after.answer;
-    let session = after.session;
-    let end = script::put_run(out, at, answer.number, answer.points, answer.used as u64);
+    let mut w = Writer::at(out, at);
+    script::put_run(&mut w, answer.number, answer.points, answer.used as u64);
+    let end = w.place();
     Answered {
-        session,
+        session: after.session,
         end,
-        call: true,
         recorded: true,
     }
 }
 
-pub(crate) fn answer_run(out: &mut [u8], at: usize, s: Session, line: &[u8]) -> Answered
+pub(crate) fn answer_run(out: &mut [u8], at: usize, s: Session, line: &[u8]) -> Option<Answered>
     requires { at + 3411 ≤ length out.old }
-    ensures { result.end ≤ at + 3411 }
+    ensures { IfSome result (λ answered. answered.end ≤ at + 3411) }
 {
-    let read = script::read_run(line, 3);
-    if read.end != line.len() {
-        return no_call(s, at);
+    let mut words = Words::new(line, 3);
+    match script::read_run(&mut words) {
+        Some(call) if words.is_over() => Some(put_run(out, at, run(s, &call))),
+        _ => None,
     }
-    put_run(out, at, run(s, read))
 }

@@ -1,5 +1,5 @@
 // Standard input read piece by piece, and what a voice writes of each piece.
-ghost use Rattle.std.specs.Prelude.{◌+◌, ◌≤◌, length};
+ghost use Rattle.std.specs.Prelude.{◌+◌, ◌≤◌, length, IfSome};
 
 use crate::Voice;
 use crate::lines::{answer_piece, write_out};
@@ -12,10 +12,7 @@ fn read_piece(rt: &HostRuntime, input: &mut [u8], held: usize) -> usize
     ensures { held + result ≤ length input.old }
 {
     let mut stdin = rt.stdin();
-    match stdin.read(&mut input[held..]) {
-        Ok(got) => got,
-        Err(_) => 0,
-    }
+    stdin.read(&mut input[held..]).unwrap_or(0)
 }
 
 // Moves the bytes from `from` to `end` to the start.
@@ -24,62 +21,57 @@ fn keep(input: &mut [u8], from: usize, end: usize) -> usize
     requires end_in_bounds { end ≤ length input.old }
     ensures { result ≤ length input.old }
 {
-    let n = end - from;
-    let mut i = 0;
-    while i < n {
-        input[i] = input[from + i];
-        i += 1;
-    }
-    n
+    input.copy_within(from..end, 0);
+    end - from
 }
 
-// Where a script is between two pieces: the record, the lines so far, the bytes held, and whether it is over.
+// Where a script is between two pieces: the record, the lines so far, and the bytes held.
 #[derive(Clone, Copy)]
 struct Place {
     session: Session,
     count: u64,
     held: usize,
-    over: bool,
 }
 
-// Reads a piece, answers its lines, and writes the answers.
-fn turn(rt: &HostRuntime, voice: Voice, input: &mut [u8], out: &mut [u8], place: Place) -> Place
+// Reads a piece, answers its lines, and writes the answers. No place is left where the script is over, or an output is not taken.
+fn turn(
+    rt: &HostRuntime,
+    voice: Voice,
+    input: &mut [u8],
+    out: &mut [u8],
+    place: Place,
+) -> Option<Place>
     requires held_in_bounds { place.held ≤ length input.old }
     requires in_bounds { 8192 ≤ length out.old }
-    ensures { result.held ≤ length input.old }
+    ensures { IfSome result (λ next. next.held ≤ length input.old) }
 {
-    let s = place.session;
     let got = read_piece(rt, input, place.held);
     let end = place.held + got;
-    let p = answer_piece(rt, voice, input, got, end, out, s, place.count);
-    let taken = write_out(rt, out, p.written);
+    let p = answer_piece(rt, voice, input, got, end, out, place.session, place.count);
+    if !write_out(rt, out, p.written) || p.over {
+        return None;
+    }
     let held = keep(input, p.used, end);
-    let session = p.session;
-    Place {
-        session,
+    Some(Place {
+        session: p.session,
         count: p.count,
         held,
-        over: p.over | !taken,
-    }
+    })
 }
 
 fn run(rt: &HostRuntime, voice: Voice, input: &mut [u8], out: &mut [u8])
     requires { 8192 ≤ length out.old }
 {
-    let session = session::closed();
     let mut place = Place {
-        session,
+        session: session::closed(),
         count: 0,
         held: 0,
-        over: false,
     };
-    let mut turns: u64 = 18_446_744_073_709_551_615;
-    while turns > 0 {
-        place = turn(rt, voice, input, out, place);
-        if place.over {
+    for _ in 0..u64::MAX {
+        let Some(next) = turn(rt, voice, input, out, place) else {
             return;
-        }
-        turns -= 1;
+        };
+        place = next;
     }
 }
 

@@ -3,11 +3,8 @@ use Rattle.std.specs.Prelude.{◌≡◌, List, ℕ, Float}
 use Rattle.ticks.specs.declared.Sample.{Sample}
 use Rattle.session.specs.declared.Session.{Session}
 use Rattle.session.specs.Requests.{Request}
-use Rattle.steps.specs.declared.Opening.{Opening}
-use Rattle.steps.specs.declared.Prediction.{Prediction}
 use Rattle.steps.specs.declared.Correction.{Correction}
-use Rattle.steps.specs.declared.Withdrawal.{Withdrawal}
-use Rattle.steps.specs.Answers.{opening_answer, prediction_answer, correction_answer, withdrawal_answer}
+use Rattle.steps.specs.Answers.{opening_answer, prediction_answer, correction_answer, withdrawal_answer, Opening, Prediction, Withdrawal}
 use Rattle.steps.specs.Steps.{open_of, open_answer, predict_of, predict_answer, correct_of, correct_answer, withdraw_of, withdraw_answer}
 use Rattle.epoch_steps.specs.declared.RoundAnswer.{RoundAnswer}
 use Rattle.epoch_steps.specs.Answers.{round_answer}

@@ -4,13 +4,11 @@ use Rattle.std.specs.Prelude.{List, [], ◌∷◌, Float}
 use Rattle.ticks.specs.declared.Sample.{Sample}
 use Rattle.session.specs.declared.Session.{Session}
 use Rattle.session.specs.Requests.{Request}
-use Rattle.steps.specs.declared.Opening.{Opening}
-use Rattle.steps.specs.declared.Prediction.{Prediction}
 use Rattle.steps.specs.declared.Correction.{Correction}
-use Rattle.steps.specs.declared.Withdrawal.{Withdrawal}
 use Rattle.epoch_steps.specs.declared.RoundAnswer.{RoundAnswer}
 use Rattle.demands.specs.Histories.{Call, predict, correct, withdraw, refine, Event, predicting, correcting, withdrawing, refining, Act, opening, beginning, calling, Implementation}
 use Rattle.promised.specs.Promises.{OpenAllows, PredictAllows, CorrectAllows, WithdrawAllows, StartAllows, RefineAllows}
+use Rattle.steps.specs.Answers.{Opening, Prediction, Withdrawal}
 
 -- on a record a call may leave this record and answer so
 pub data Allowed : Session → Call → Session → Event → Type 0 where

@@ -1,13 +1,11 @@
 -- What is proved of every result that the promises allow: `proofs/Theorems.antt` has a proof of each.
-use Rattle.std.specs.Prelude.{◌≡◌, List, ℕ, ◌+◌, Float, length}
+use Rattle.std.specs.Prelude.{◌≡◌, List, ℕ, ◌+◌, Float, length, Ok}
 use Rattle.ticks.specs.declared.Sample.{Sample}
 use Rattle.session.specs.declared.Session.{Session}
 use Rattle.session.specs.declared.State.TheVariants.{Settled, Awaiting}
 use Rattle.session.specs.Coordinates.{Coordinate}
 use Rattle.session.specs.Moves.{present_point}
 use Rattle.session.specs.Requests.{Request}
-use Rattle.steps.specs.declared.Opening.TheVariants as O
-use Rattle.steps.specs.declared.Prediction.TheVariants as P
 use Rattle.steps.specs.declared.ReportedPoint.{ReportedPoint}
 use Rattle.epoch_steps.specs.declared.RoundAnswer.{RoundAnswer}
 use Rattle.epoch_steps.specs.declared.Outcome.TheVariants as R
@@ -78,7 +76,7 @@ pub record Counting (s left : Session) (es : List Event) : Type 0 where
 -- two records stand at one point, and where the next prediction of both may be answered with a point, it is one point
 pub record Together (s t : Session) : Type 0 where
   pub present : present_point s ≡ present_point t
-  pub next : (u v : Session) (q r : ReportedPoint) → PredictAllows s u (P.Predicted q) → PredictAllows t v (P.Predicted r) → q ≡ r
+  pub next : (u v : Session) (q r : ReportedPoint) → PredictAllows s u (Ok q) → PredictAllows t v (Ok r) → q ≡ r
 
 -- ---- the theorem
 
@@ -90,7 +88,7 @@ pub record Promised : Type 0 where
   -- and the results are those of our six functions, so every demand holds of them
   pub meets : (I : Implementation) → Keeps I → Meets I
   -- an opening that succeeds, and a round that opens, begin at their origin
-  pub opened : (r : Request) (left : Session) → OpenAllows r left O.Opened → Begins (origin r) left
+  pub opened : (r : Request) (left : Session) → OpenAllows r left (Ok tt) → Begins (origin r) left
   pub started : (s left : Session) (floats : List Float) (a : RoundAnswer) → RefineAllows s floats left a → a.outcome ≡ R.Opened → Begins (start_origin s floats) left
   -- from there on, whatever is called
   pub keeps : (o : Origin) (s left : Session) (calls : List Call) (es : List Event) → Begins o s → Runs s calls left es → Keeping o left es

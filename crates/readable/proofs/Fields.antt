@@ -15,16 +15,14 @@ use mir.Val.{SFits}
 use borrow.Author.Tests.{lt-ltb, ltb-true, eqb-true, eqb-false, eq-eqb}
 use Rattle.integers.specs.Parts.{integers, nat_abs-parts, one-part}
 use Rattle.text.specs.Numbers.{ascii}
-use Rattle.text.specs.declared.Signed.{Signed}
-use Rattle.text.specs.declared.Signed.TheVariants as S
+use Rattle.std.specs.Prelude.{Option, Some, None}
 use Rattle.text.specs.Places.{Stands}
 use Rattle.decimal.specs.Text.{fixed_text, few_digits}
 use Rattle.decimal.proofs.Digits.{few-digits}
 use Rattle.decimal.specs.Reading.{fixed_at}
 use Rattle.decimal.proofs.Back.{fixed-only, fixed_back}
 use Rattle.message.specs.Message.{texts}
-use Rattle.received.specs.declared.data.Field.{Field}
-use Rattle.received.specs.Data.{decimals_of, no_field, field_by, field_at, field_start, value_in}
+use Rattle.received.specs.Data.{decimals_of, field_by, field_at, field_start, value_in, value_of, end_of}
 
 -- ---- texts that stand one behind the other
 
@@ -70,43 +68,43 @@ fits-size z f = omega (integers, nat_abs-parts z, one-part z)
 pub size_fits : (z : ℤ) → nat_abs z < 10 ^ 16 → SFits w64 z
 size_fits z h = omega (integers, nat_abs-parts z, one-part z)
 
-pub record Shows (decimals : ℕ) (line : List ℕ) (at : ℕ) (f : Field) : Type 0 where
-  pub stands : Stands line at (32 ∷ fixed_text decimals f.value) f.end
-  pub few : nat_abs f.value < 10 ^ 16
+pub record Shows (decimals : ℕ) (line : List ℕ) (at : ℕ) (f : Option (ℤ × ℕ)) : Type 0 where
+  pub stands : Stands line at (32 ∷ fixed_text decimals (value_of f)) (end_of f)
+  pub few : nat_abs (value_of f) < 10 ^ 16
 
 module _ (decimals : ℕ) (most : decimals ≤ 15) (line : List ℕ) where
-  few-by : (z : ℤ) (at end : ℕ) (t : Bool) → few_digits decimals z ≡ t → get_or line at 0 ≡ 32 → fixed_at decimals line (at + 1) ≡ S.Number z end
-      → ¬ ((cond t (record { value = z; end = end }) no_field).end ≡ 0) → Shows decimals line at (cond t (record { value = z; end = end }) no_field)
+  few-by : (z : ℤ) (at end : ℕ) (t : Bool) → few_digits decimals z ≡ t → get_or line at 0 ≡ 32 → fixed_at decimals line (at + 1) ≡ Some (z, end)
+      → ¬ (end_of (cond t (Some (z, end)) None) ≡ 0) → Shows decimals line at (cond t (Some (z, end)) None)
   few-by z at end true t space e h =
       let (stands, fits) = fixed-only decimals line (at + 1) z end e in
       let size = sym (few-digits decimals z most (fits-size z fits)) ∙ t in
       record { stands = both-there (omega arith) space stands; few = ltb-true (nat_abs z) (10 ^ 16) size }
   few-by z at end false t space e h = absurd (h refl)
 
-  number_by : (n : Signed) (at : ℕ) → get_or line at 0 ≡ 32 → fixed_at decimals line (at + 1) ≡ n
-      → ¬ ((field_by decimals n).end ≡ 0) → Shows decimals line at (field_by decimals n)
+  number_by : (n : Option (ℤ × ℕ)) (at : ℕ) → get_or line at 0 ≡ 32 → fixed_at decimals line (at + 1) ≡ n
+      → ¬ (end_of (field_by decimals n) ≡ 0) → Shows decimals line at (field_by decimals n)
   unfolding field_by
-  number_by (S.Number z end) at space e h = few-by z at end (few_digits decimals z) refl space e h
-  number_by S.Nothing at space e h = absurd (h refl)
+  number_by (Some (z, end)) at space e h = few-by z at end (few_digits decimals z) refl space e h
+  number_by None at space e h = absurd (h refl)
 
   space-by : (at : ℕ) (t : Bool) → eqb (get_or line at 0) 32 ≡ t
-      → ¬ ((cond t (field_by decimals (fixed_at decimals line (at + 1))) no_field).end ≡ 0)
-      → Shows decimals line at (cond t (field_by decimals (fixed_at decimals line (at + 1))) no_field)
+      → ¬ (end_of (cond t (field_by decimals (fixed_at decimals line (at + 1))) None) ≡ 0)
+      → Shows decimals line at (cond t (field_by decimals (fixed_at decimals line (at + 1))) None)
   space-by at true t h = number_by (fixed_at decimals line (at + 1)) at (eqb-true (get_or line at 0) 32 t) refl h
   space-by at false t h = absurd (h refl)
 
-  pub field-shown : (at : ℕ) → ¬ ((field_at decimals line at).end ≡ 0) → (¬ (at ≡ 0)) × Shows decimals line at (field_at decimals line at)
+  pub field-shown : (at : ℕ) → ¬ (end_of (field_at decimals line at) ≡ 0) → (¬ (at ≡ 0)) × Shows decimals line at (field_at decimals line at)
   unfolding field_at
   field-shown zero h = absurd (h refl)
   field-shown (suc at) h = (λ e. omega (arith, e), space-by (suc at) (eqb (get_or line (suc at) 0) 32) refl h)
 
-  pub field-read : (at : ℕ) (f : Field) → ¬ (at ≡ 0) → Shows decimals line at f → field_at decimals line at ≡ f
+  pub field-read : (at : ℕ) (v : ℤ) (end : ℕ) → ¬ (at ≡ 0) → Shows decimals line at (Some (v, end)) → field_at decimals line at ≡ Some (v, end)
   unfolding field_at field_by
-  field-read zero f h s = absurd (h refl)
-  field-read (suc at) f h s =
-      let fits = size_fits f.value s.few in
-      let size = few-digits decimals f.value most (fits-size f.value fits) ∙ lt-ltb (nat_abs f.value) (10 ^ 16) s.few in
-      rw (eq-eqb (get_or line (suc at) 0) 32 (head-there s.stands), fixed_back decimals line (suc at + 1) f.value f.end fits (tail-there s.stands), size)
+  field-read zero v end h s = absurd (h refl)
+  field-read (suc at) v end h s =
+      let fits = size_fits v s.few in
+      let size = few-digits decimals v most (fits-size v fits) ∙ lt-ltb (nat_abs v) (10 ^ 16) s.few in
+      rw (eq-eqb (get_or line (suc at) 0) 32 (head-there s.stands), fixed_back decimals line (suc at + 1) v end fits (tail-there s.stands), size)
 
 -- ---- field after field
 

@@ -12,33 +12,32 @@ use borrow.Author.Tests.{eqb-true, eqb-false}
 use Rattle.integers.specs.Tests.{joined}
 use Rattle.text.specs.Numbers.{ascii}
 use Rattle.text.specs.Places.{Stands}
-use Rattle.calendar.specs.declared.Reading.{Reading}
-use Rattle.calendar.specs.declared.Reading.TheVariants.{Time, Nothing}
+use Rattle.std.specs.Prelude.{Option, Some, None, is_some, unwrap_or}
 use Rattle.calendar.specs.Calendar.{moment_of, most_seconds}
 use Rattle.calendar.specs.Text.{same_text, time_in}
 use Rattle.calendar.proofs.Back.{same_true, same_refl, text-long, time-exactly}
-use Rattle.message.specs.Request.{seconds_or, seconds_in}
+use Rattle.message.specs.Request.{seconds_in}
 use Rattle.message.specs.Message.{time_after, texts}
-use Rattle.message.specs.Refusals.{is_some, is_time}
-use Rattle.received.specs.Data.{Point, decimals_of, field_of, data_line, line_of, field_at, field_start, value_in, first_ones, datum_in, point_in}
+use Rattle.message.specs.Refusals.{is_time}
+use Rattle.received.specs.Data.{Point, decimals_of, field_of, data_line, line_of, field_at, field_start, value_in, first_ones, datum_in, point_in, value_of, end_of}
 use Rattle.received.specs.Messages.{Every, IsPoint}
 use Rattle.readable.proofs.Fields.{few-decimals, field-read, shown, Shown, fields-shown}
 
 -- ---- times
 
-time-some : (r : Reading) → is_some r ≡ true → r ≡ Time (seconds_or r)
-time-some (Time n) h = refl
-time-some Nothing h = absurd (let z : ◌≡◌ {A = ℕ} 0 1 = cc in omega arith)
+time-some : (r : Option ℕ) → is_some r ≡ true → r ≡ Some (unwrap_or r 0)
+time-some (Some n) h = refl
+time-some None h = absurd (let z : ◌≡◌ {A = ℕ} 0 1 = cc in omega arith)
 
 -- a text that is a time
 pub time-told : (s : List ℕ) → is_time s ≡ true → (seconds_in s ≤ most_seconds) × (s ≡ time_after (seconds_in s))
 unfolding is_time seconds_in
-time-told s h = (time-exactly s (seconds_or (time_in s))).0 (time-some (time_in s) h)
+time-told s h = (time-exactly s (unwrap_or (time_in s) 0)).0 (time-some (time_in s) h)
 
 -- the text of a time
 pub time-held : (n : ℕ) → n ≤ most_seconds → (is_time (time_after n) ≡ true) × (seconds_in (time_after n) ≡ n)
 unfolding is_time seconds_in
-time-held n h = let e = (time-exactly (time_after n) n).1 (h, refl) in (ap is_some e, ap seconds_or e)
+time-held n h = let e = (time-exactly (time_after n) n).1 (h, refl) in (ap is_some e, ap (λ o. unwrap_or o 0) e)
 
 -- ---- the first of some values
 
@@ -156,11 +155,11 @@ module _ (p : Point) (h : IsPoint p) where
       }
 
   one-read : (k : ℕ) → k < 6
-      → field_at (decimals_of k) line (19 + length (texts f k)) ≡ record { value = get_or p.values k (pos 0); end = 19 + length (texts f (suc k)) }
+      → field_at (decimals_of k) line (19 + length (texts f k)) ≡ Some (get_or p.values k (pos 0), 19 + length (texts f (suc k)))
   unfolding field_of ascii
   one-read k l =
       field-read (decimals_of k) (few-decimals k) line (19 + length (texts f k))
-      (record { value = get_or p.values k (pos 0); end = 19 + length (texts f (suc k)) })
+      (get_or p.values k (pos 0)) (19 + length (texts f (suc k)))
       (λ z. omega (arith, z))
       (record { stands = stands_at k l; few = every-at (λ n. nat_abs n < 10 ^ 16) p.values k (pos 0) h.digits (omega (arith, h.six)) })
 
@@ -168,11 +167,11 @@ module _ (p : Point) (h : IsPoint p) where
   unfolding field_start texts
   read-to zero l = refl
   read-to (suc k) l =
-      ap (λ at. (field_at (decimals_of k) line at).end) (read-to k (omega arith)) ∙ ap (λ r. r.end) (one-read k (omega arith))
+      ap (λ at. end_of (field_at (decimals_of k) line at)) (read-to k (omega arith)) ∙ ap end_of (one-read k (omega arith))
 
   value_read : (k : ℕ) → k < 6 → value_in line k ≡ get_or p.values k (pos 0)
   unfolding value_in
-  value_read k l = ap (λ at. (field_at (decimals_of k) line at).value) (read-to k (omega arith)) ∙ ap (λ r. r.value) (one-read k l)
+  value_read k l = ap (λ at. value_of (field_at (decimals_of k) line at)) (read-to k (omega arith)) ∙ ap value_of (one-read k l)
 
   all_read : drop (field_start line 6) line ≡ end
   all_read =

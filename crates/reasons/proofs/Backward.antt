@@ -45,10 +45,6 @@ module _ {new old : ℕ → ℤ} {i : ℕ} {out : List ℤ} (m : Mixed new old i
       by k true f = m.below k (ltb-true k i f)
       by k false f = let l = ltb-false k i f in m.from k l ∙ h k l
 
--- nothing is new yet
-pub untouched : {new : ℕ → ℤ} {out : List ℤ} → Mixed new (at out) 0 out
-untouched = record { below = λ k h. absurd (omega arith); from = λ k h. refl }
-
 -- ---- past the end
 
 -- the last place less what is behind it is the last place

@@ -1,64 +1,75 @@
--- The first of a list for which a test is true, as a chain of early returns finds it; and where there is none.
+-- The first of a list for which a test is true: by its place, as the first that is some, and where there is none.
 use mathlib.Core.Path.{◌≡◌, refl, sym, ap, ◌∙◌}
 use mathlib.Core.Bool.{Bool, true, false, not, cond}
-use mathlib.Core.List.{List, [], ◌∷◌}
-use Prim.Native.Nat.{ℕ, suc}
-use native.Mathlib.Nat.{suc-ne-zero}
+use mathlib.Core.List.{List, [], ◌∷◌, map}
+use Prim.Native.Nat.{ℕ, suc, ◌+◌}
+use native.Mathlib.Nat.{suc-ne-zero, add-zero}
+use native.Mathlib.Omega.{arith}
+use borrow.Author.Tests.{lt-ltb, le-ltb, ltb-true, ltb-false}
+use lib.Dec.{ltb}
+use lib.ListN.{length}
+use Rattle.std.specs.Prelude.{Option, Some, None}
+use Rattle.std.specs.Option.{unwrap_or, option_or}
+use Rattle.std.specs.List.{position, position_or_len}
 use Rattle.integers.specs.Tests.{◌and◌, clash}
-use Rattle.rules.specs.Rules.{NotZero}
 use Rattle.session.specs.Values.{Value, every}
 use Rattle.reasons.specs.declared.Reason.{Reason}
-use Rattle.reasons.specs.Reasons.{placed, no_reason, first_from}
+use Rattle.reasons.specs.Reasons.{placed, no_reason, named, first, first_from}
 
--- r is what is said of the first
-pub record Names {A : Type 0} (n : ℕ) (test : A → Bool) (said : ℕ → A → Reason) (xs : List A) (r : Reason) : Type 0 where
-  pub is : r ≡ first_from n test said xs
+-- ---- by its place: of tests that were made, and of their list
 
--- what a call that was looked at by `not` says of the test
-pub was : {r t b : Bool} → r ≡ t → not r ≡ b → not t ≡ b
-was e h = ap not (sym e) ∙ h
+abbrev pub placed_at : ℕ → Option ℕ → Reason
+placed_at n None = no_reason
+placed_at n (Some i) = placed (n + i)
 
-no_place : no_reason.value ≡ 0
-unfolding placed
-no_place = refl
+-- one place on
+next : (m k n : ℕ) → placed_at (suc m) (cond (ltb k n) (Some k) None) ≡ placed_at m (cond (ltb (1 + k) (suc n)) (Some (1 + k)) None)
+next m k n = by (ltb k n) refl
+  where
+    by : (t : Bool) → ltb k n ≡ t → placed_at (suc m) (cond t (Some k) None) ≡ placed_at m (cond (ltb (1 + k) (suc n)) (Some (1 + k)) None)
+    by true e = rw (lt-ltb (1 + k) (suc n) (omega (arith, ltb-true k n e))) (ap placed (omega arith))
+    by false e = rw (le-ltb (1 + k) (suc n) (omega (arith, ltb-false k n e))) refl
 
-module _ {A : Type 0} {n : ℕ} {test : A → Bool} {said : ℕ → A → Reason} {r : Reason} where
-  -- ---- an early return, and past it
+first-at : (n : ℕ) (tests : List Bool) → first_from n (λ t. t) named tests ≡ placed_at n (position (λ t. t) tests)
+unfolding first_from
+first-at n [] = refl
+first-at n (true ∷ tests) = rw (lt-ltb 0 (suc (length tests)) (omega arith)) (ap placed (sym (add-zero n)))
+first-at n (false ∷ tests) = first-at (suc n) tests ∙ next n (position_or_len (λ t. t) tests) (length tests)
 
-  pub hit : {x : A} {rest : List A} → test x ≡ true → r ≡ said n x → Names n test said (x ∷ rest) r
+pub first-position : (tests : List Bool) → placed_at 1 (position (λ t. t) tests) ≡ first (λ t. t) named tests
+first-position tests = sym (first-at 1 tests)
+
+pub first-made : {A : Type 0} (test : A → Bool) (n : ℕ) (xs : List A) → first_from n (λ t. t) named (map test xs) ≡ first_from n test named xs
+unfolding first_from
+first-made test n [] = refl
+first-made test n (x ∷ xs) = ap (cond (test x) (placed n)) (first-made test (suc n) xs)
+
+-- ---- as the first that is some
+
+module _ {A : Type 0} (test : A → Bool) (said : ℕ → A → Reason) where
+  abbrev pub at_fault : ℕ → A → Option Reason
+  at_fault n x = cond (test x) (Some (said n x)) None
+
+  pub first-of-six : (u v w x y z : A) →
+      unwrap_or (option_or (option_or (option_or (option_or (option_or (at_fault 1 u) (at_fault 2 v)) (at_fault 3 w)) (at_fault 4 x)) (at_fault 5 y)) (at_fault 6 z)) no_reason
+      ≡ first test said (u ∷ v ∷ w ∷ x ∷ y ∷ z ∷ [])
   unfolding first_from
-  hit t e = record { is = rw t e }
-
-  pub past : {x : A} {rest : List A} → test x ≡ false → Names (suc n) test said rest r → Names n test said (x ∷ rest) r
-  unfolding first_from
-  past t e = record { is = rw t e.is }
-
-  pub end : r ≡ no_reason → Names n test said [] r
-  unfolding first_from
-  end e = record { is = e }
-
-  -- ---- the same where a value is looked at by itself, and its place tells whether it was the one
-
-  pub alone : {x : A} → r ≡ cond (test x) (said n x) no_reason → Names n test said (x ∷ []) r
-  unfolding first_from
-  alone e = record { is = e }
-
-  pub found : {x : A} {rest : List A} → r ≡ cond (test x) (said n x) no_reason → NotZero r.value → Names n test said (x ∷ rest) r
-  unfolding first_from
-  found {x} {rest} e h = record { is = by (test x) e }
+  first-of-six u v w x y z = by (test u) (test v) (test w) (test x) (test y) (test z)
     where
-      by : (t : Bool) → r ≡ cond t (said n x) no_reason → r ≡ cond t (said n x) (first_from (suc n) test said rest)
-      by true f = f
-      by false f = absurd (h (ap (λ u. u.value) f ∙ no_place))
-
-  pub not_found : {x : A} {rest : List A} {u : Reason} → u ≡ cond (test x) (said n x) no_reason → u.value ≡ 0 → NotZero (said n x).value →
-      Names (suc n) test said rest r → Names n test said (x ∷ rest) r
-  unfolding first_from
-  not_found {x} {rest} {u} e z h later = record { is = by (test x) e }
-    where
-      by : (t : Bool) → u ≡ cond t (said n x) no_reason → r ≡ cond t (said n x) (first_from (suc n) test said rest)
-      by true f = absurd (h (sym (ap (λ v. v.value) f) ∙ z))
-      by false f = later.is
+      by : (a b c d e f : Bool) →
+          unwrap_or
+          (option_or
+          (option_or (option_or (option_or (option_or (cond a (Some (said 1 u)) None) (cond b (Some (said 2 v)) None)) (cond c (Some (said 3 w)) None)) (cond d (Some (said 4 x)) None)) (cond e (Some (said 5 y)) None))
+          (cond f (Some (said 6 z)) None))
+          no_reason
+          ≡ cond a (said 1 u) (cond b (said 2 v) (cond c (said 3 w) (cond d (said 4 x) (cond e (said 5 y) (cond f (said 6 z) no_reason)))))
+      by true b c d e f = refl
+      by false true c d e f = refl
+      by false false true d e f = refl
+      by false false false true e f = refl
+      by false false false false true f = refl
+      by false false false false false true = refl
+      by false false false false false false = refl
 
 -- ---- whether there is one: where every value passes a test, none fails it
 

@@ -1,20 +1,15 @@
 -- The reason of each number: of a sample at fault, and of a corrected point that is in range or not.
 use mathlib.Core.Path.{◌≡◌, refl, sym, ap, ◌∙◌}
-use mathlib.Core.Bool.{Bool, true, false, ◌||◌, cond}
+use mathlib.Core.Bool.{Bool, true, false, cond}
 use mathlib.Core.List.{[], ◌∷◌}
 use Prim.Native.Nat.{ℕ}
-use lib.Dec.{eqb}
-use lib.Ieee.{Float}
 use Rattle.integers.specs.Tests.{fails}
 use Rattle.rules.specs.Rules.{NotZero, first_of, Gives}
 use Rattle.ticks.specs.declared.Fault.{Fault}
-use Rattle.ticks.specs.declared.Fault.TheVariants as F
-use Rattle.ticks.specs.declared.Rounded.{Rounded}
-use Rattle.ticks.specs.declared.Rounded.TheVariants as R
+use Rattle.ticks.specs.declared.Fault.TheVariants.{TooLarge, Infinite, NotANumber}
 use Rattle.ticks.specs.declared.Sample.{Sample}
 use Rattle.ticks.specs.declared.WholeSample.{WholeSample}
-use Rattle.ticks.specs.Round.{rounded_of, is_not_a_number, is_infinite, is_too_large}
-use Rattle.ticks.specs.Samples.{any, axes_of, whole_of}
+use Rattle.ticks.specs.Samples.{axes_of, whole_of}
 use Rattle.session.specs.declared.Point.{Point}
 use Rattle.session.specs.declared.Session.{Session}
 use Rattle.session.specs.Moves.{estimate_of, corrected_point, point_in_range}
@@ -25,7 +20,7 @@ use Rattle.steps.specs.Steps.{correct_answer_by}
 use Rattle.reasons.specs.declared.Reason.{Reason}
 use Rattle.reasons.specs.declared.Differences.{Differences}
 use Rattle.reasons.specs.declared.Explanation.{Explanation}
-use Rattle.reasons.specs.Reasons.{placed, no_reason, named, first, is_no_number, is_infinity, is_over_limit, is_over, moved, point_reasons, beside, is_refused_with}
+use Rattle.reasons.specs.Reasons.{placed, no_reason, named, first, is_over, moved, point_reasons, beside, has_fault}
 use Rattle.reasons.specs.Differences.{no_differences, differences_with}
 use Rattle.reasons.specs.Explanations.{explanation, explained_by, reasons_of, explain_of, judged_point}
 use Rattle.reasons.proofs.First.{every-passes, none-fails}
@@ -41,62 +36,14 @@ module _ (s : Session) (a : Sample) where
   unfolding explained_by beside differences_with
   unfitting = refl
 
--- ---- a sample: what refuses a float by itself is what it is
+-- ---- a sample: its fault is what is tested
 
-abbrev single : Rounded → ℕ
-single r = first_of ((is_not_a_number r || false, 4) ∷ (is_infinite r || false, 13) ∷ (is_too_large r || false, 5) ∷ [])
-
-of-4 : (r : Rounded) → eqb (single r) 4 ≡ is_not_a_number r
-unfolding first_of
-of-4 (R.Ticks n) = refl
-of-4 R.NotANumber = refl
-of-4 R.Infinite = refl
-of-4 R.TooLarge = refl
-
-of-13 : (r : Rounded) → eqb (single r) 13 ≡ is_infinite r
-unfolding first_of
-of-13 (R.Ticks n) = refl
-of-13 R.NotANumber = refl
-of-13 R.Infinite = refl
-of-13 R.TooLarge = refl
-
-of-5 : (r : Rounded) → eqb (single r) 5 ≡ is_too_large r
-unfolding first_of
-of-5 (R.Ticks n) = refl
-of-5 R.NotANumber = refl
-of-5 R.Infinite = refl
-of-5 R.TooLarge = refl
-
-refused-4 : (x : Float) → is_refused_with 4 x ≡ is_no_number x
-unfolding any
-refused-4 x = of-4 (rounded_of x)
-
-refused-13 : (x : Float) → is_refused_with 13 x ≡ is_infinity x
-unfolding any
-refused-13 x = of-13 (rounded_of x)
-
-refused-5 : (x : Float) → is_refused_with 5 x ≡ is_over_limit x
-unfolding any
-refused-5 x = of-5 (rounded_of x)
-
-module _ (s : Session) (a : Sample) where
-  at-4 : explanation 4 0 (first (is_refused_with 4) named (axes_of a)) no_differences ≡ explained_by 4 (beside 4 (reasons_of s a)) s (whole_of a)
-  unfolding explained_by beside differences_with
-  at-4 = ap (λ test. explanation 4 0 (first test named (axes_of a)) no_differences) (λ i x. refused-4 x i)
-
-  at-13 : explanation 13 0 (first (is_refused_with 13) named (axes_of a)) no_differences ≡ explained_by 13 (beside 13 (reasons_of s a)) s (whole_of a)
-  unfolding explained_by beside differences_with
-  at-13 = ap (λ test. explanation 13 0 (first test named (axes_of a)) no_differences) (λ i x. refused-13 x i)
-
-  at_5 : explanation 5 0 (first (is_refused_with 5) named (axes_of a)) no_differences ≡ explained_by 5 (beside 5 (reasons_of s a)) s (whole_of a)
-  unfolding explained_by beside differences_with
-  at_5 = ap (λ test. explanation 5 0 (first test named (axes_of a)) no_differences) (λ i x. refused-5 x i)
-
-  pub at-fault : (f : Fault) → NotZero (fault_number f) → explanation (fault_number f) 0 (first (is_refused_with (fault_number f)) named (axes_of a)) no_differences ≡ explained_by (fault_number f) (beside (fault_number f) (reasons_of s a)) s (whole_of a)
-  at-fault F.Nothing z = absurd (z refl)
-  at-fault F.NotANumber z = at-4
-  at-fault F.Infinite z = at-13
-  at-fault F.TooLarge z = at_5
+pub at-fault : (s : Session) (a : Sample) (f : Fault) →
+    explanation (fault_number f) 0 (first (has_fault f) named (axes_of a)) no_differences ≡ explained_by (fault_number f) (beside (fault_number f) (reasons_of s a)) s (whole_of a)
+unfolding explained_by beside differences_with
+at-fault s a NotANumber = refl
+at-fault s a Infinite = refl
+at-fault s a TooLarge = refl
 
 -- ---- a point in range
 

@@ -1,17 +1,17 @@
 -- The first value at fault: what is tested of each value, and for each number which reason it has. Definitions only.
-use Rattle.std.specs.Prelude.{ℕ, suc, Bool, not, cond, List, [], ◌∷◌, eqb, pos, Float}
-use Rattle.rules.specs.Rules.{first_of}
+use Rattle.std.specs.Prelude.{ℕ, suc, Bool, not, cond, List, [], ◌∷◌, eqb, pos, Option, Some, None, Float}
 use Rattle.exact.specs.declared.Exact.{Exact}
 use Rattle.exact.specs.declared.Reported.{Reported}
 use Rattle.exact.specs.Numerator.{exact_of, wholly}
 use Rattle.exact.specs.Report.{reported_of}
+use Rattle.ticks.specs.declared.Fault.{Fault}
+use Rattle.ticks.specs.declared.Fault.TheVariants.{TooLarge, Infinite, NotANumber}
 use Rattle.ticks.specs.Round.{rounded_of, is_not_a_number, is_infinite, is_too_large}
 use Rattle.axis.specs.Kinds.{tolerance_of, moved_by, within}
 use Rattle.session.specs.declared.Point.{Point}
 use Rattle.session.specs.declared.Session.{Session}
 use Rattle.session.specs.Moves.{estimate_of}
 use Rattle.session.specs.Values.{Value, six, in_range_at, within_at, change_at}
-use Rattle.steps.specs.Refusals.{sample_rules}
 use Rattle.reasons.specs.declared.Reason.{Reason}
 
 -- ---- what a reason says
@@ -89,10 +89,12 @@ beside n ((m, r) ∷ rest) = cond (eqb n m) r (beside n rest)
 
 -- ---- the same, as the code finds it
 
--- a float is refused with the number n by itself
-abbrev pub is_refused_with : ℕ → Float → Bool
-is_refused_with n x = eqb (first_of (sample_rules (x ∷ []))) n
+-- what is tested of a float where a sample is refused for a fault
+abbrev pub has_fault : Fault → Float → Bool
+has_fault NotANumber = is_no_number
+has_fault Infinite = is_infinity
+has_fault TooLarge = is_over_limit
 
 -- one value against its tolerance
-abbrev pub compared : ℕ → ℕ → Exact → Exact → Reason
-compared n tolerance e before = cond (not (within tolerance e before)) (reason n (reported_of (exact_of (moved_by e before))) tolerance) no_reason
+abbrev pub compared : ℕ → ℕ → Exact → Exact → Option Reason
+compared n tolerance e before = cond (not (within tolerance e before)) (Some (reason n (reported_of (exact_of (moved_by e before))) tolerance)) None

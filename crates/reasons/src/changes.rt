@@ -6,7 +6,7 @@ ghost use Rattle.session.specs.Values.{six};
 ghost use Rattle.reasons.specs.Reasons.{first, is_over, moved, compared};
 
 use crate::Reason;
-use crate::ranges::place;
+use crate::places::place;
 use exact::Exact;
 use session::{Point, Session, estimate_of};
 
@@ -17,29 +17,25 @@ fn is_over(tolerance: u64, change: Exact) -> bool
     ensures { result ≡ not (leb (nat_abs (numerator change)) (tolerance * D)) }
 {
     let most = tolerance as i64;
-    if !change.at_most(Exact::of_whole(most)) {
-        return true;
-    }
-    !Exact::of_whole(-most).at_most(change)
+    !(change.at_most(Exact::of_whole(most)) && Exact::of_whole(-most).at_most(change))
 }
 
-// One value against its tolerance; none where it moved by no more.
-fn compare(value: u8, tolerance: u64, now: Exact, before: Exact) -> Reason
+// One value against its tolerance, where it moved by more.
+fn compare(value: u8, tolerance: u64, now: Exact, before: Exact) -> Option<Reason>
     requires tolerance_bound { tolerance ≤ 1048576 }
     requires bounded { Bounded (2 ^ 52) now }
     requires bounded_2 { Bounded (2 ^ 52) before }
     ensures { result ≡ compared value tolerance now before }
 {
-    let exact = now.subtract(before);
-    if is_over(tolerance, exact) {
-        let change = exact.reported();
-        return Reason {
-            value,
-            change,
-            tolerance,
-        };
+    let change = now.subtract(before);
+    if !is_over(tolerance, change) {
+        return None;
     }
-    place(0)
+    Some(Reason {
+        value,
+        change: change.reported(),
+        tolerance,
+    })
 }
 
 pub(crate) fn first_over(s: Session, q: Point) -> Reason
@@ -48,25 +44,13 @@ pub(crate) fn first_over(s: Session, q: Point) -> Reason
     ensures { result ≡ first (is_over s q) (moved s q) six }
 {
     let before = estimate_of(s);
-    let x = compare(1, s.tolerances.position, q.x.position, before.x.position);
-    if x.value != 0 {
-        return x;
-    }
-    let y = compare(2, s.tolerances.position, q.y.position, before.y.position);
-    if y.value != 0 {
-        return y;
-    }
-    let z = compare(3, s.tolerances.position, q.z.position, before.z.position);
-    if z.value != 0 {
-        return z;
-    }
-    let vx = compare(4, s.tolerances.velocity, q.x.velocity, before.x.velocity);
-    if vx.value != 0 {
-        return vx;
-    }
-    let vy = compare(5, s.tolerances.velocity, q.y.velocity, before.y.velocity);
-    if vy.value != 0 {
-        return vy;
-    }
-    compare(6, s.tolerances.velocity, q.z.velocity, before.z.velocity)
+    let position = s.tolerances.position;
+    let velocity = s.tolerances.velocity;
+    compare(1, position, q.x.position, before.x.position)
+        .or(compare(2, position, q.y.position, before.y.position))
+        .or(compare(3, position, q.z.position, before.z.position))
+        .or(compare(4, velocity, q.x.velocity, before.x.velocity))
+        .or(compare(5, velocity, q.y.velocity, before.y.velocity))
+        .or(compare(6, velocity, q.z.velocity, before.z.velocity))
+        .unwrap_or(place(0))
 }

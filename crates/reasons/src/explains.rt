@@ -10,7 +10,8 @@ ghost use Rattle.reasons.specs.Explanations.{explanation, judged_point, explaine
 use crate::axes::first_axis;
 use crate::changes::first_over;
 use crate::newest::{differences_of, no_differences};
-use crate::ranges::{first_out, place};
+use crate::places::place;
+use crate::ranges::first_out;
 use crate::{Differences, Explanation, Reason};
 use session::{Point, Session, corrected_point, is_awaiting, point_in_range};
 use steps::fault_number;
@@ -20,12 +21,11 @@ use ticks::{Sample, WholeSample};
 fn refused(number: u8, reason: Reason) -> Explanation
     ensures { result ≡ explanation number 0 reason no_differences }
 {
-    let differences = no_differences();
     Explanation {
         number,
         kind: 0,
         reason,
-        differences,
+        differences: no_differences(),
     }
 }
 
@@ -37,25 +37,16 @@ fn judge(s: Session, q: Point, differences: Differences) -> Explanation
     ensures { result ≡ judged_point s q differences }
 {
     let reason = first_over(s, q);
-    if reason.value == 0 {
-        return Explanation {
-            number: 0,
-            kind: 1,
-            reason,
-            differences,
-        };
-    }
-    if s.limit <= s.corrections + 1 {
-        return Explanation {
-            number: 8,
-            kind: 0,
-            reason,
-            differences,
-        };
-    }
+    let (number, kind) = if reason.value == 0 {
+        (0, 1)
+    } else if s.limit <= s.corrections + 1 {
+        (8, 0)
+    } else {
+        (0, 2)
+    };
     Explanation {
-        number: 0,
-        kind: 2,
+        number,
+        kind,
         reason,
         differences,
     }
@@ -70,11 +61,10 @@ fn explain_with(s: Session, w: WholeSample) -> Explanation
     let q = corrected_point(s, w);
     let differences = differences_of(s, w);
     if !point_in_range(q) {
-        let reason = first_out(q);
         return Explanation {
             number: 6,
             kind: 0,
-            reason,
+            reason: first_out(q),
             differences,
         };
     }
@@ -88,12 +78,8 @@ pub fn explain(s: Session, a: Sample) -> Explanation
     if !is_awaiting(s) {
         return refused(7, place(0));
     }
-    let rounded = ticks::round_sample(a);
-    let fault = rounded.fault;
-    let number = fault_number(fault);
-    if number != 0 {
-        return refused(number, first_axis(number, a));
+    match ticks::round_sample(a) {
+        Ok(w) => explain_with(s, w),
+        Err(fault) => refused(fault_number(fault).number(), first_axis(fault, a)),
     }
-    let w = rounded.ticks;
-    explain_with(s, w)
 }

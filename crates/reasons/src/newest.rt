@@ -14,13 +14,8 @@ use ticks::WholeSample;
 fn in_front(sample: i64, samples: [i64; 9]) -> [i64; 10]
     ensures { at result ≡ in_front sample (at samples) }
 {
-    let mut out = [0i64; 10];
-    out[0] = sample;
-    let mut i: usize = 0;
-    while i < 9 {
-        out[i + 1] = samples[i];
-        i += 1;
-    }
+    let mut out = [sample; 10];
+    out[1..].copy_from_slice(&samples);
     out
 }
 
@@ -30,10 +25,8 @@ fn backward(xs: [i64; 10]) -> [i64; 10]
     ensures { at result ≡ back (at xs) }
 {
     let mut out = xs;
-    let mut i: usize = 0;
-    while i < 9 {
+    for i in 0..9 {
         out[i] = xs[i] - xs[i + 1];
-        i += 1;
     }
     out
 }
@@ -46,10 +39,8 @@ fn difference(p: usize, sample: i64, samples: [i64; 9]) -> i64
     ensures { result ≡ difference p (in_front sample (at samples)) }
 {
     let mut xs = in_front(sample, samples);
-    let mut i: usize = 0;
-    while i < p {
+    for _ in 0..p {
         xs = backward(xs);
-        i += 1;
     }
     xs[0]
 }
@@ -74,13 +65,10 @@ pub(crate) fn differences_of(s: Session, w: WholeSample) -> Differences
     if s.corrections != 0 {
         return no_differences();
     }
-    let xs = s.x.samples;
-    let ys = s.y.samples;
-    let zs = s.z.samples;
     Differences {
         given: true,
-        x: difference(s.points, w.x, xs),
-        y: difference(s.points, w.y, ys),
-        z: difference(s.points, w.z, zs),
+        x: difference(s.points, w.x, s.x.samples),
+        y: difference(s.points, w.y, s.y.samples),
+        z: difference(s.points, w.z, s.z.samples),
     }
 }

@@ -1,50 +1,25 @@
 -- What is answered, and what the rooms hold, by what was found in the text.
-use mathlib.Core.Path.{◌≡◌, refl, sym, ◌∙◌, ap}
+use mathlib.Core.Path.{◌≡◌, refl, sym, ◌∙◌, ap, subst}
 use mathlib.Core.Bool.{Bool, true, false, cond}
+use Rattle.std.specs.Prelude.{Ok, Err}
 use mathlib.Core.List.{List, [], ◌∷◌, ◌++◌, flatten, map}
-use Prim.Native.Nat.{ℕ, suc, ◌*◌, ◌≤◌, ◌<◌}
+use Prim.Native.Nat.{ℕ, suc, ◌*◌, ◌≤◌}
 use native.Mathlib.Omega.{arith}
 use lib.IntN.{ℤ}
 use lib.ListN.{length, drop}
 use borrow.Author.Tests.{leb-true}
 use Rattle.integers.specs.Tests.{joined}
-use Rattle.calendar.specs.Text.{same_text}
 use Rattle.message.specs.declared.Edition.{Edition}
-use Rattle.message.specs.Message.{time_after}
 use Rattle.received.specs.declared.Received.{Received}
 use Rattle.received.specs.declared.judging.Judged.{Judged}
 use Rattle.received.specs.Lines.{lines_in}
 use Rattle.received.specs.Versions.{is_other}
-use Rattle.received.specs.Slots.{Walked, Through, Stopped}
-use Rattle.received.specs.Data.{Point, datum_in, point_in, accepts, points_in, first_seconds, last_seconds}
-use Rattle.received.specs.Reading.{Read, Reads, Stops, rest_at, number_at, unless, all_read, read_behind, read_by, read_lines, read_of}
+use Rattle.received.specs.Data.{Point, AllGood, datum_in, point_in, accepts, points_in}
+use Rattle.received.specs.Reading.{Read, Reads, Stops, read_of}
 use Rattle.received.specs.Answer.{has_room, seconds_of, values_of, refused_by, received, answer_by, epochs_by, values_by, answer_to, epochs_after, values_after}
 use Rattle.received.specs.Finding.{bytes_of, groups_of, is_through, walk_over, judged_by}
 use Rattle.received.proofs.Cuts.{lines-back, lines-drop, bytes-append}
 use Rattle.received.proofs.Sound.{found, counts}
-
--- ---- a line at which reading stops is not 0
-
-abbrev Positive : Read → Type 0
-Positive (Reads groups points) = Unit {0}
-Positive (Stops n) = 0 < n
-
-unless-positive : (t : Bool) (n : ℕ) (r : Read) → 0 < n → Positive r → Positive (unless t n r)
-unfolding unless
-unless-positive true n r h p = p
-unless-positive false n r h p = h
-
-positive-by : (w : Walked) → Positive (read_by w)
-unfolding read_by read_behind number_at
-positive-by (Stopped before) = omega arith
-positive-by (Through groups rest) =
-    unless-positive (all_read (points_in 0 rest) rest) _ _ (omega arith)
-    (unless-positive (same_text (rest_at groups 13) (time_after (first_seconds (points_in 0 rest)))) _ _ (omega arith)
-    (unless-positive (same_text (rest_at groups 14) (time_after (last_seconds (points_in 0 rest)))) _ _ (omega arith) tt))
-
-pub positive : (e : Edition) (text : List ℕ) → Positive (read_of e text)
-unfolding read_of read_lines
-positive e text = positive-by (walk_over e text)
 
 -- ---- all lines are points
 
@@ -59,6 +34,17 @@ all-points earliest (line ∷ lines) e = by (accepts earliest (datum_in line)) e
         → point_in line ∷ map point_in lines ≡ elim t as (λ _. List Point) [ true ↦ point_in line ∷ points_in (suc (datum_in line).seconds) lines | false ↦ [] ]
     by true e ih = ap (λ ps. point_in line ∷ ps) (ih (omega arith))
     by false e ih = absurd (omega arith)
+
+pub all-good : (earliest : ℕ) (lines : List (List ℕ)) → length (points_in earliest lines) ≡ length lines → AllGood lines
+unfolding points_in
+all-good earliest [] e = tt
+all-good earliest (line ∷ lines) e = by (accepts earliest (datum_in line)) refl e (all-good (suc (datum_in line).seconds) lines)
+  where
+    by : (t : Bool) → accepts earliest (datum_in line) ≡ t
+        → length {A = Point} (elim t as (λ _. List Point) [ true ↦ point_in line ∷ points_in (suc (datum_in line).seconds) lines | false ↦ [] ]) ≡ suc (length lines)
+        → (length (points_in (suc (datum_in line).seconds) lines) ≡ length lines → AllGood lines) → AllGood (line ∷ lines)
+    by true t e ih = let (g, l) = simp joined at t in (g, ih (omega arith))
+    by false t e ih = absurd (omega arith)
 
 -- ---- the answers
 
@@ -87,35 +73,35 @@ module _ (e : Edition) (text epochs : List ℕ) (values : List ℤ) where
     a.2 ∙ sym (ap (λ t. cond t values (values_by (read_of e text) epochs values)) o),
   )
 
-module _ (e : Edition) (text epochs : List ℕ) (values : List ℤ) {j : Judged} (q : j ≡ judged_by (read_of e text)) where
+module _ (e : Edition) (text epochs : List ℕ) (values : List ℤ) where
   abbrev Answers : Received → List ℕ → List ℤ → Type 0
   Answers r es vs = AnsweredBy e text epochs values (read_of e text) r es vs
 
-  stops-by : (r : Read) → j ≡ judged_by r → (j.line ≡ 0 → ⊥)
-      → (refused_by 15 j.line ≡ answer_by r epochs values) × (epochs ≡ epochs_by r epochs values) × (values ≡ values_by r epochs values)
+  stops-by : (r : Read) (n : ℕ) → Err n ≡ judged_by r → (refused_by 15 n ≡ answer_by r epochs values) × (epochs ≡ epochs_by r epochs values) × (values ≡ values_by r epochs values)
   unfolding judged_by
-  stops-by (Stops n) e z = (ap (λ x. refused_by 15 x.line) e, refl, refl)
-  stops-by (Reads groups points) e z = absurd (z (ap (λ x. x.line) e))
+  stops-by (Stops line) n e = let same : n ≡ line = cc in (ap (refused_by 15) same, refl, refl)
+  stops-by (Reads groups points) n e = cc
 
-  pub stops : (j.line ≡ 0 → ⊥) → Answers (refused_by 15 j.line) epochs values
-  stops z = stops-by (read_of e text) q z
+  pub stops : (n : ℕ) → Err n ≡ judged_by (read_of e text) → Answers (refused_by 15 n) epochs values
+  stops n q = stops-by (read_of e text) n q
 
-  record Found : Type 0 where
-    groups : List (List (List ℕ))
-    points : List Point
-    reads : read_of e text ≡ Reads groups points
-    at-is : j.at ≡ bytes_of (flatten groups)
-    count-is : j.count ≡ length points
+  module _ {j : Judged} (q : Ok j ≡ judged_by (read_of e text)) where
+    record Found : Type 0 where
+      groups : List (List (List ℕ))
+      points : List Point
+      reads : read_of e text ≡ Reads groups points
+      at-is : j.at ≡ bytes_of (flatten groups)
+      count-is : j.count ≡ length points
 
-  found-by : (r : Read) → read_of e text ≡ r → Positive r → j ≡ judged_by r → j.line ≡ 0 → Found
-  unfolding judged_by
-  found-by (Stops n) q p e z = absurd (omega (arith, p, ap (λ x. x.line) e, z))
-  found-by (Reads groups points) q p e z =
-      record { groups = groups; points = points; reads = q; at-is = ap (λ x. x.at) e; count-is = ap (λ x. x.count) e }
+    found-by : (r : Read) → read_of e text ≡ r → Ok j ≡ judged_by r → Found
+    unfolding judged_by
+    found-by (Stops n) r q = cc
+    found-by (Reads groups points) r q =
+        let same : j ≡ record { at = bytes_of (flatten groups); count = length points } = cc in
+        record { groups = groups; points = points; reads = r; at-is = ap (λ x. x.at) same; count-is = ap (λ x. x.count) same }
 
-  module _ (z : j.line ≡ 0) where
     abbrev f : Found
-    f = found-by (read_of e text) refl (positive e text) q z
+    f = found-by (read_of e text) refl q
 
     abbrev rest : List (List ℕ)
     rest = (found e text f.reads).rest
@@ -135,6 +121,11 @@ module _ (e : Edition) (text epochs : List ℕ) (values : List ℤ) {j : Judged}
     within =
         let w = found e text f.reads in
         omega (arith, f.at-is, ap length (sym (lines-back text) ∙ ap flatten w.lines_are), bytes-append (flatten f.groups) w.rest)
+
+    pub all_good : AllGood (lines_in (drop j.at text))
+    all_good =
+        let p = (found e text f.reads).points-are in
+        subst AllGood (sym behind) (all-good 0 rest (ap length (sym p) ∙ as_many))
 
     pub through : is_through (walk_over e text) ≡ true
     through = (found e text f.reads).through

@@ -1,104 +1,57 @@
--- Which slots are of which kind, and which are a comment's: what is left when the others were asked for.
-use mathlib.Core.Path.{◌≡◌, refl, sym}
-use mathlib.Core.Bool.{true, false}
-use Prim.Native.Nat.{ℕ, zero, suc, ◌<◌}
-use native.Mathlib.Omega.{arith}
+-- Which slots are of which kind, and the fronts of the slots, which are the same in both editions.
+use mathlib.Core.Path.{◌≡◌, refl, sym, ◌∙◌, ap}
+use mathlib.Core.Bool.{Bool}
+use mathlib.Core.List.{List, [], ◌∷◌, map}
+use Prim.Native.Nat.{ℕ, zero, suc}
+use lib.ListN.{get_or}
 use Rattle.message.specs.declared.Edition.{Edition}
+use Rattle.message.specs.declared.Edition.TheVariants.{Two, Three}
+use Rattle.received.specs.declared.forms.Kind.TheVariants.{One, Perhaps, Any}
 use Rattle.received.specs.Slots.{Slot, one, perhaps, any, form_of}
-use Rattle.received.specs.Profile.{comment_form, has_more}
-use Rattle.received.specs.Reading.{slot_at}
-use Rattle.received.specs.Finding.{is_perhaps, is_any}
-
-no {ℓ} : {A : Type ℓ} → false ≡ true → A
-no e = absurd (let z : ◌≡◌ {A = ℕ} 0 1 = cc in omega arith)
-
-pub comments-left : (e : Edition) (k : ℕ) → ((((((((((((((Unit {0} × (k ≡ 0 → ⊥)) × (k ≡ 2 → ⊥)) × (k ≡ 3 → ⊥)) × (k ≡ 4 → ⊥)) × (k ≡ 5 → ⊥)) × (k ≡ 6 → ⊥)) × (k ≡ 8 → ⊥)) × (k ≡ 9 → ⊥)) × (k ≡ 10 → ⊥)) × (k ≡ 11 → ⊥)) × (k ≡ 12 → ⊥)) × (k ≡ 13 → ⊥)) × (k ≡ 14 → ⊥)) × (k ≡ 15 → ⊥)) → comment_form ≡ form_of (slot_at e k)
-comments-left e zero h = absurd (h.0.0.0.0.0.0.0.0.0.0.0.0.0.1 refl)
-comments-left e (suc zero) h = refl
-comments-left e (suc (suc zero)) h = absurd (h.0.0.0.0.0.0.0.0.0.0.0.0.1 refl)
-comments-left e (suc (suc (suc zero))) h = absurd (h.0.0.0.0.0.0.0.0.0.0.0.1 refl)
-comments-left e (suc (suc (suc (suc zero)))) h = absurd (h.0.0.0.0.0.0.0.0.0.0.1 refl)
-comments-left e (suc (suc (suc (suc (suc zero))))) h = absurd (h.0.0.0.0.0.0.0.0.0.1 refl)
-comments-left e (suc (suc (suc (suc (suc (suc zero)))))) h = absurd (h.0.0.0.0.0.0.0.0.1 refl)
-comments-left e (suc (suc (suc (suc (suc (suc (suc zero))))))) h = refl
-comments-left e (suc (suc (suc (suc (suc (suc (suc (suc zero)))))))) h = absurd (h.0.0.0.0.0.0.0.1 refl)
-comments-left e (suc (suc (suc (suc (suc (suc (suc (suc (suc zero))))))))) h = absurd (h.0.0.0.0.0.0.1 refl)
-comments-left e (suc (suc (suc (suc (suc (suc (suc (suc (suc (suc zero)))))))))) h = absurd (h.0.0.0.0.0.1 refl)
-comments-left e (suc (suc (suc (suc (suc (suc (suc (suc (suc (suc (suc zero))))))))))) h = absurd (h.0.0.0.0.1 refl)
-comments-left e (suc (suc (suc (suc (suc (suc (suc (suc (suc (suc (suc (suc zero)))))))))))) h = absurd (h.0.0.0.1 refl)
-comments-left e (suc (suc (suc (suc (suc (suc (suc (suc (suc (suc (suc (suc (suc zero))))))))))))) h = absurd (h.0.0.1 refl)
-comments-left e (suc (suc (suc (suc (suc (suc (suc (suc (suc (suc (suc (suc (suc (suc zero)))))))))))))) h = absurd (h.0.1 refl)
-comments-left e (suc (suc (suc (suc (suc (suc (suc (suc (suc (suc (suc (suc (suc (suc (suc zero))))))))))))))) h = absurd (h.1 refl)
-comments-left e (suc (suc (suc (suc (suc (suc (suc (suc (suc (suc (suc (suc (suc (suc (suc (suc zero)))))))))))))))) h = refl
-comments-left e (suc (suc (suc (suc (suc (suc (suc (suc (suc (suc (suc (suc (suc (suc (suc (suc (suc k))))))))))))))))) h = refl
-
-pub any_left : (e : Edition) (k : ℕ) → k < 17 → (((Unit {0} × (k ≡ 1 → ⊥)) × (k ≡ 7 → ⊥)) × (k ≡ 16 → ⊥)) → false ≡ is_any (slot_at e k)
-any_left e zero l h = refl
-any_left e (suc zero) l h = absurd (h.0.0.1 refl)
-any_left e (suc (suc zero)) l h = refl
-any_left e (suc (suc (suc zero))) l h = refl
-any_left e (suc (suc (suc (suc zero)))) l h = refl
-any_left e (suc (suc (suc (suc (suc zero))))) l h = refl
-any_left e (suc (suc (suc (suc (suc (suc zero)))))) l h = refl
-any_left e (suc (suc (suc (suc (suc (suc (suc zero))))))) l h = absurd (h.0.1 refl)
-any_left e (suc (suc (suc (suc (suc (suc (suc (suc zero)))))))) l h = refl
-any_left e (suc (suc (suc (suc (suc (suc (suc (suc (suc zero))))))))) l h = refl
-any_left e (suc (suc (suc (suc (suc (suc (suc (suc (suc (suc zero)))))))))) l h = refl
-any_left e (suc (suc (suc (suc (suc (suc (suc (suc (suc (suc (suc zero))))))))))) l h = refl
-any_left e (suc (suc (suc (suc (suc (suc (suc (suc (suc (suc (suc (suc zero)))))))))))) l h = refl
-any_left e (suc (suc (suc (suc (suc (suc (suc (suc (suc (suc (suc (suc (suc zero))))))))))))) l h = refl
-any_left e (suc (suc (suc (suc (suc (suc (suc (suc (suc (suc (suc (suc (suc (suc zero)))))))))))))) l h = refl
-any_left e (suc (suc (suc (suc (suc (suc (suc (suc (suc (suc (suc (suc (suc (suc (suc zero))))))))))))))) l h = refl
-any_left e (suc (suc (suc (suc (suc (suc (suc (suc (suc (suc (suc (suc (suc (suc (suc (suc zero)))))))))))))))) l h = absurd (h.1 refl)
-any_left e (suc (suc (suc (suc (suc (suc (suc (suc (suc (suc (suc (suc (suc (suc (suc (suc (suc k))))))))))))))))) l h = absurd (omega arith)
-
-pub perhaps-left : (e : Edition) (k : ℕ) → k < 17 → ((Unit {0} × (k ≡ 2 → ⊥)) × (k ≡ 5 → ⊥)) → false ≡ is_perhaps (slot_at e k)
-perhaps-left e zero l h = refl
-perhaps-left e (suc zero) l h = refl
-perhaps-left e (suc (suc zero)) l h = absurd (h.0.1 refl)
-perhaps-left e (suc (suc (suc zero))) l h = refl
-perhaps-left e (suc (suc (suc (suc zero)))) l h = refl
-perhaps-left e (suc (suc (suc (suc (suc zero))))) l h = absurd (h.1 refl)
-perhaps-left e (suc (suc (suc (suc (suc (suc zero)))))) l h = refl
-perhaps-left e (suc (suc (suc (suc (suc (suc (suc zero))))))) l h = refl
-perhaps-left e (suc (suc (suc (suc (suc (suc (suc (suc zero)))))))) l h = refl
-perhaps-left e (suc (suc (suc (suc (suc (suc (suc (suc (suc zero))))))))) l h = refl
-perhaps-left e (suc (suc (suc (suc (suc (suc (suc (suc (suc (suc zero)))))))))) l h = refl
-perhaps-left e (suc (suc (suc (suc (suc (suc (suc (suc (suc (suc (suc zero))))))))))) l h = refl
-perhaps-left e (suc (suc (suc (suc (suc (suc (suc (suc (suc (suc (suc (suc zero)))))))))))) l h = refl
-perhaps-left e (suc (suc (suc (suc (suc (suc (suc (suc (suc (suc (suc (suc (suc zero))))))))))))) l h = refl
-perhaps-left e (suc (suc (suc (suc (suc (suc (suc (suc (suc (suc (suc (suc (suc (suc zero)))))))))))))) l h = refl
-perhaps-left e (suc (suc (suc (suc (suc (suc (suc (suc (suc (suc (suc (suc (suc (suc (suc zero))))))))))))))) l h = refl
-perhaps-left e (suc (suc (suc (suc (suc (suc (suc (suc (suc (suc (suc (suc (suc (suc (suc (suc zero)))))))))))))))) l h = refl
-perhaps-left e (suc (suc (suc (suc (suc (suc (suc (suc (suc (suc (suc (suc (suc (suc (suc (suc (suc k))))))))))))))))) l h = absurd (omega arith)
+use Rattle.received.specs.Profile.{comment_form, has_more, slots}
+use Rattle.received.specs.Reading.{slot_at, front_at}
+use Rattle.received.specs.Finding.{kind_of}
 
 -- a slot by its kind
-pub is_any_lem : (s : Slot) → is_any s ≡ true → any (form_of s) ≡ s
-is_any_lem (one f) e = no e
-is_any_lem (perhaps may f) e = no e
+pub is_one_lem : (s : Slot) → kind_of s ≡ One → one (form_of s) ≡ s
+is_one_lem (one f) e = refl
+is_one_lem (perhaps may f) e = cc
+is_one_lem (any f) e = cc
+
+pub is_any_lem : (s : Slot) → kind_of s ≡ Any → any (form_of s) ≡ s
+is_any_lem (one f) e = cc
+is_any_lem (perhaps may f) e = cc
 is_any_lem (any f) e = refl
 
-pub is_one : (s : Slot) → is_any s ≡ false → is_perhaps s ≡ false → one (form_of s) ≡ s
-is_one (one f) a p = refl
-is_one (perhaps may f) a p = no (sym p)
-is_one (any f) a p = no (sym a)
+-- a slot that may be left out may stand in the editions with further keywords
+abbrev AsHasMore : Bool → List Slot → Type 0
+AsHasMore more [] = Unit {0}
+AsHasMore more (one f ∷ ss) = AsHasMore more ss
+AsHasMore more (perhaps may f ∷ ss) = (may ≡ more) × AsHasMore more ss
+AsHasMore more (any f ∷ ss) = AsHasMore more ss
 
-pub is-perhaps : (e : Edition) (k : ℕ) → is_perhaps (slot_at e k) ≡ true → perhaps (has_more e) (form_of (slot_at e k)) ≡ slot_at e k
-is-perhaps e zero p = no p
-is-perhaps e (suc zero) p = no p
-is-perhaps e (suc (suc zero)) p = refl
-is-perhaps e (suc (suc (suc zero))) p = no p
-is-perhaps e (suc (suc (suc (suc zero)))) p = no p
-is-perhaps e (suc (suc (suc (suc (suc zero))))) p = refl
-is-perhaps e (suc (suc (suc (suc (suc (suc zero)))))) p = no p
-is-perhaps e (suc (suc (suc (suc (suc (suc (suc zero))))))) p = no p
-is-perhaps e (suc (suc (suc (suc (suc (suc (suc (suc zero)))))))) p = no p
-is-perhaps e (suc (suc (suc (suc (suc (suc (suc (suc (suc zero))))))))) p = no p
-is-perhaps e (suc (suc (suc (suc (suc (suc (suc (suc (suc (suc zero)))))))))) p = no p
-is-perhaps e (suc (suc (suc (suc (suc (suc (suc (suc (suc (suc (suc zero))))))))))) p = no p
-is-perhaps e (suc (suc (suc (suc (suc (suc (suc (suc (suc (suc (suc (suc zero)))))))))))) p = no p
-is-perhaps e (suc (suc (suc (suc (suc (suc (suc (suc (suc (suc (suc (suc (suc zero))))))))))))) p = no p
-is-perhaps e (suc (suc (suc (suc (suc (suc (suc (suc (suc (suc (suc (suc (suc (suc zero)))))))))))))) p = no p
-is-perhaps e (suc (suc (suc (suc (suc (suc (suc (suc (suc (suc (suc (suc (suc (suc (suc zero))))))))))))))) p = no p
-is-perhaps e (suc (suc (suc (suc (suc (suc (suc (suc (suc (suc (suc (suc (suc (suc (suc (suc zero)))))))))))))))) p = no p
-is-perhaps e (suc (suc (suc (suc (suc (suc (suc (suc (suc (suc (suc (suc (suc (suc (suc (suc (suc k))))))))))))))))) p = no p
+perhaps-by : (more : Bool) (ss : List Slot) (k : ℕ) → AsHasMore more ss → kind_of (get_or ss k (any comment_form)) ≡ Perhaps
+    → perhaps more (form_of (get_or ss k (any comment_form))) ≡ get_or ss k (any comment_form)
+perhaps-by more [] zero a e = cc
+perhaps-by more [] (suc k) a e = cc
+perhaps-by more (one f ∷ ss) zero a e = cc
+perhaps-by more (perhaps may f ∷ ss) zero a e = ap (λ m. perhaps m f) (sym a.0)
+perhaps-by more (any f ∷ ss) zero a e = cc
+perhaps-by more (one f ∷ ss) (suc k) a e = perhaps-by more ss k a e
+perhaps-by more (perhaps may f ∷ ss) (suc k) a e = perhaps-by more ss k a.1 e
+perhaps-by more (any f ∷ ss) (suc k) a e = perhaps-by more ss k a e
+
+pub is_perhaps_lem : (e : Edition) (k : ℕ) → kind_of (slot_at e k) ≡ Perhaps → perhaps (has_more e) (form_of (slot_at e k)) ≡ slot_at e k
+is_perhaps_lem e k h = perhaps-by (has_more e) (slots e) k (refl, (refl, tt)) h
+
+-- ---- the fronts
+
+fronts-of : (ss : List Slot) (k : ℕ) → (form_of (get_or ss k (any comment_form))).front ≡ get_or (map (λ s. (form_of s).front) ss) k comment_form.front
+fronts-of [] zero = refl
+fronts-of [] (suc k) = refl
+fronts-of (s ∷ ss) zero = refl
+fronts-of (s ∷ ss) (suc k) = fronts-of ss k
+
+pub front_same : (e : Edition) (k : ℕ) → (form_of (slot_at e k)).front ≡ front_at k
+front_same Two k = refl
+front_same Three k = fronts-of (slots Three) k ∙ sym (fronts-of (slots Two) k)

@@ -1,19 +1,18 @@
 -- A line by its front: when it has one, and what the tests of the code say of it.
-use mathlib.Core.Path.{◌≡◌, refl, sym, ◌∙◌, ap}
-use mathlib.Core.Bool.{Bool, true, false, ◌||◌}
+use mathlib.Core.Path.{◌≡◌, sym, ◌∙◌, ap}
+use mathlib.Core.Bool.{Bool, true, false}
 use mathlib.Core.List.{List, [], ◌∷◌, ◌++◌}
-use Prim.Native.Nat.{ℕ, suc, ◌+◌, ◌-◌, ◌≤◌, ◌<◌}
+use Prim.Native.Nat.{ℕ, ◌+◌, ◌-◌}
 use native.Mathlib.Omega.{arith}
 use lib.Dec.{eqb}
-use lib.ListN.{length, take, drop, get_or, length-append, take-append-drop, drop_of_length-le}
-use lib.Seq.{take-append_seam, drop-append_seam, get_or-append-add, get_or-append_seam, drop-drop, drop-cons}
-use borrow.Author.Tests.{eqb-true, eq-eqb, ne_eqb}
-use Rattle.integers.specs.Tests.{joined, clash, fails, agree, and_no, and_yes}
+use lib.ListN.{length, take, drop, length-append, take-append-drop}
+use lib.Seq.{take-append_seam, drop-append_seam}
+use Rattle.std.specs.Prelude.{Option, Some, None, MatchOption, nat_eq}
+use Rattle.std.specs.Cmp.Lexicographic.{pointwise, other_text, same_text as text_told}
+use Rattle.integers.specs.Tests.{◌and◌, joined, fails}
 use Rattle.calendar.specs.Text.{same_text}
 use Rattle.calendar.proofs.Back.{same_true, same_refl}
-use Rattle.message.specs.Form.{all_between}
 use Rattle.received.specs.Slots.{Form, line_with, rest_in, has_front, is_of}
-use Rattle.received.specs.Profile.{printable, is_remark}
 
 pub same-eq : {s t : List ℕ} → s ≡ t → same_text s t ≡ true
 same-eq {s} {t} e = ap (same_text s) (sym e) ∙ same_refl s
@@ -29,76 +28,9 @@ module _ (front line : List ℕ) where
   pub front_long : has_front front line ≡ true → length line ≡ length front + length (rest_in front line) + 1
   front_long e = ap length (front-is e) ∙ length-with front (rest_in front line)
 
-  pub too_short : length line ≤ length front → false ≡ has_front front line
-  too_short h = sym (fails (has_front front line) (λ e. omega (arith, front_long e)))
-
-  pub other-front : same_text (take (length front) line) front ≡ false → false ≡ has_front front line
-  other-front f =
-      sym (fails (has_front front line)
-      (λ e.
-      clash
-      (same-eq (ap (take (length front)) (front-is e) ∙ take-append_seam front (rest_in front line ++ (10 ∷ []))))
-      f))
-
-  last-is : has_front front line ≡ true → get_or line (length line - 1) 0 ≡ 10
-  last-is e =
-      let rest = rest_in front line in
-      let n : length (line_with front rest) - 1 ≡ length front + length rest = omega (arith, length-with front rest) in
-      ap (λ l. get_or l (length l - 1) 0) (front-is e)
-      ∙ ap (λ k. get_or (line_with front rest) k 0) n
-      ∙ get_or-append-add front (rest ++ (10 ∷ [])) (length rest) 0
-      ∙ get_or-append_seam rest 10 [] 0
-
-  holds : line ≡ line_with front (rest_in front line) → has_front front line ≡ true
-  unfolding has_front
-  holds e = same-eq e
-
-  module _ (h : length front < length line) where
-    ended : get_or line (length line - 1) 0 ≡ 10 → drop (length line - 1) line ≡ 10 ∷ []
-    ended e =
-        let m : suc (length line - 1) ≡ length line = omega arith in
-        drop-cons line (length line - 1) 0 (omega arith)
-        ∙ ap (λ b. b ∷ drop (suc (length line - 1)) line) e
-        ∙ ap (λ t. 10 ∷ t) (drop_of_length-le line {i = suc (length line - 1)} (omega arith))
-
-    cut : drop (length front) line ≡ rest_in front line ++ drop (length line - 1) line
-    unfolding rest_in
-    cut =
-        let k = length line - (length front + 1) in
-        let m : length front + k ≡ length line - 1 = omega arith in
-        sym (take-append-drop k (drop (length front) line))
-        ∙ ap (λ t. take k (drop (length front) line) ++ t) (drop-drop k (length front) line ∙ ap (λ i. drop i line) m)
-
-    pub front-last : same_text (take (length front) line) front ≡ true → eqb (get_or line (length line - 1) 0) 10 ≡ has_front front line
-    front-last s =
-        agree (eqb (get_or line (length line - 1) 0) 10) (has_front front line)
-        (λ e. holds (sym (take-append-drop (length front) line)
-        ∙ ap (λ t. t ++ drop (length front) line) (same_true (take (length front) line) front s)
-        ∙ ap (λ t. front ++ t) (cut ∙ ap (λ t. rest_in front line ++ t) (ended (eqb-true (get_or line (length line - 1) 0) 10 e)))))
-        (λ e. eq-eqb (get_or line (length line - 1) 0) 10 (last-is e))
-
-  -- the part between the front and the last character
-  part-rest : take (length line - 1 - length front) (drop (length front) line) ≡ rest_in front line
-  unfolding rest_in
-  part-rest =
-      let m : length line - 1 - length front ≡ length line - (length front + 1) = omega arith in
-      ap (λ k. take k (drop (length front) line)) m
-
-or-true : (t : Bool) → (t || true) ≡ true
-or-true true = refl
-or-true false = refl
-
 -- ---- a form by a test of the front, and of the rest
 
 module _ (f : Form) (line : List ℕ) where
-  pub of-no : has_front f.front line ≡ false → false ≡ is_of f line
-  unfolding is_of
-  of-no e = and_no _ e
-
-  pub of-yes : has_front f.front line ≡ true → {r : Bool} → r ≡ f.test (take (length line - 1 - length f.front) (drop (length f.front) line)) → r ≡ is_of f line
-  unfolding is_of
-  of-yes e t = and_yes e (t ∙ ap f.test (part-rest f.front line))
-
   pub of-front : is_of f line ≡ true → has_front f.front line ≡ true
   unfolding is_of
   of-front e = let (p, q) = simp joined at e in p
@@ -106,25 +38,6 @@ module _ (f : Form) (line : List ℕ) where
   pub of-rest : is_of f line ≡ true → f.test (rest_in f.front line) ≡ true
   unfolding is_of
   of-rest e = let (p, q) = simp joined at e in q
-
--- ---- what stands behind COMMENT
-
-module _ (rest : List ℕ) where
-  pub empty-remark : length rest ≡ 0 → true ≡ is_remark rest
-  unfolding is_remark printable all_between
-  empty-remark e = by rest e
-    where
-      by : (s : List ℕ) → length s ≡ 0 → true ≡ is_remark s
-      by [] e = refl
-      by (b ∷ s) e = absurd (omega arith)
-
-  pub no-blank : (length rest ≡ 0 → ⊥) → (get_or rest 0 0 ≡ 32 → ⊥) → false ≡ is_remark rest
-  unfolding is_remark
-  no-blank n m = sym (rw (ne_eqb (length rest) 0 n, ne_eqb (get_or rest 0 0) 32 m) refl)
-
-  pub blank-first : get_or rest 0 0 ≡ 32 → {r : Bool} → r ≡ printable 7 rest → r ≡ is_remark rest
-  unfolding is_remark
-  blank-first e p = p ∙ sym (rw (eq-eqb (get_or rest 0 0) 32 e, or-true (eqb (length rest) 0)) refl)
 
 -- ---- the line of a front and a rest
 
@@ -144,3 +57,53 @@ module _ (front rest : List ℕ) where
 pub of-back : (f : Form) (rest : List ℕ) → f.test rest ≡ true → is_of f (line_with f.front rest) ≡ true
 unfolding is_of
 of-back f rest t = simp joined (front-back f.front rest, ap f.test (rest_back f.front rest) ∙ t)
+
+-- ---- a line by its front and its last character, as the code cuts it
+
+-- what is between the two, or nothing
+abbrev pub Cut : {B : Type 0} → (B → List ℕ) → List ℕ → List ℕ → Option B → Type 0
+Cut now front line o = MatchOption o (has_front front line ≡ false) (λ rest. (has_front front line ≡ true) × (now rest ≡ rest_in front line))
+
+module _ (front line : List ℕ) where
+  pub no_front : pointwise nat_eq (take (length front) line) front ≡ false → has_front front line ≡ false
+  no_front n =
+      fails (has_front front line)
+      (λ e. other_text (take (length front) line) front (sym n) (ap (take (length front)) (front-is front line e) ∙ take-append_seam front (rest_in front line ++ (10 ∷ []))))
+
+  module _ (behind : List ℕ) (b : behind ≡ drop (length front) line) where
+    not-ended : pointwise nat_eq (drop (length behind - 1) behind) (10 ∷ []) ≡ false → has_front front line ≡ false
+    not-ended n =
+        fails (has_front front line)
+        (λ e.
+        let rest = rest_in front line in
+        let all : behind ≡ rest ++ (10 ∷ []) = b ∙ ap (drop (length front)) (front-is front line e) ∙ drop-append_seam front (rest ++ (10 ∷ [])) in
+        let m : length behind - 1 ≡ length rest = omega (arith, ap length all, length-append rest (10 ∷ [])) in
+        other_text (drop (length behind - 1) behind) (10 ∷ []) (sym n) ((λ i. drop (m i) (all i)) ∙ drop-append_seam rest (10 ∷ [])))
+
+    ended : pointwise nat_eq (take (length front) line) front ≡ true → pointwise nat_eq (drop (length behind - 1) behind) (10 ∷ []) ≡ true
+        → (rest : List ℕ) → rest ≡ take (length behind - 1) behind → (has_front front line ≡ true) × (rest ≡ rest_in front line)
+    ended f e rest r =
+        let first = text_told (take (length front) line) front (sym f) in
+        let last = text_told (drop (length behind - 1) behind) (10 ∷ []) (sym e) in
+        let all : line ≡ line_with front rest =
+        sym (take-append-drop (length front) line)
+        ∙ (λ i. first i ++ sym b i)
+        ∙ ap (λ s. front ++ s) (sym (take-append-drop (length behind - 1) behind) ∙ (λ i. sym r i ++ last i)) in
+        (ap (has_front front) all ∙ front-back front rest, sym (rest_back front rest) ∙ ap (rest_in front) (sym all))
+
+    pub cut : pointwise nat_eq (take (length front) line) front ≡ true → {B : Type 0} (now : B → List ℕ) (o : Option B)
+        → MatchOption o (pointwise nat_eq (drop (length behind - 1) behind) (10 ∷ []) ≡ false)
+        (λ x. (pointwise nat_eq (drop (length behind - 1) behind) (10 ∷ []) ≡ true) × (now x ≡ take (length behind - 1) behind) × (length (now x) + 1 ≡ length behind))
+        → Cut now front line o
+    cut f now None n = not-ended n
+    cut f now (Some x) (e, r, long) = ended f e (now x) r
+
+-- a form by its front, and the test of what is behind it
+module _ (f : Form) {front : List ℕ} (e : front ≡ f.front) (line : List ℕ) where
+  pub of-rest_of : {B : Type 0} (now : B → List ℕ) (o : Option B) {r : Bool} → Cut now front line o → MatchOption o (r ≡ false) (λ x. r ≡ f.test (now x)) → r ≡ is_of f line
+  unfolding is_of
+  of-rest_of now None n t = t ∙ sym (ap (λ h. h and f.test (rest_in f.front line)) (ap (λ x. has_front x line) (sym e) ∙ n))
+  of-rest_of now (Some x) (h, b) t =
+      t
+      ∙ ap f.test (b ∙ ap (λ y. rest_in y line) e)
+      ∙ sym (ap (λ h. h and f.test (rest_in f.front line)) (ap (λ y. has_front y line) (sym e) ∙ h))

@@ -1,5 +1,9 @@
 -- The points of data lines one after another, and the rooms that they fill from their starts.
 use mathlib.Core.Path.{◌≡◌, refl, sym, ◌∙◌, ap, subst}
+use mathlib.Core.Bool.{true, false}
+use Rattle.std.specs.Prelude.{Option, Some, None, MatchOption, IsSome}
+use Rattle.integers.specs.Tests.{clash}
+use Rattle.received.specs.declared.data.Datum.{Datum}
 use mathlib.Core.List.{List, [], ◌∷◌, ◌++◌, map, flatten, append-nil, append_assoc}
 use Prim.Native.Nat.{ℕ, suc, ◌+◌, ◌*◌, ◌≤◌, ◌<◌}
 use native.Mathlib.Nat.{add-zero}
@@ -9,7 +13,7 @@ use lib.IntN.{ℤ}
 use lib.ListN.{length, take, drop, set, length-set, take-append-drop}
 use lib.Seq.{paste, take-paste, drop-paste, length-paste, take_all, drop-drop, take-suc-set, drop-set-lt}
 use Rattle.received.specs.Lines.{lines_in, past_line}
-use Rattle.received.specs.Data.{datum_in, point_in, value_in}
+use Rattle.received.specs.Data.{datum_in, point_in, value_in, AllGood, IsDatum}
 use Rattle.received.specs.Answer.{seconds_of, values_of}
 use Rattle.received.proofs.Cuts.{between, past_end, past-within, at-line}
 use Rattle.received.proofs.Points.{length-ones}
@@ -114,3 +118,17 @@ module _ (text : List ℕ) (from : ℕ) {epochs₀ : List ℕ} {values₀ : List
                 ∙ drop-drop 6 (6 * i) values₀
                 ∙ ap (λ j. drop j values₀) (sym m);
           })
+
+-- ---- lines that can be read
+
+pub good-line : (text : List ℕ) (at : ℕ) → at < length text → AllGood (lines_in (drop at text))
+    → ((datum_in (between text at (past_line text at))).good ≡ true) × AllGood (lines_in (drop (past_line text at) text))
+good-line text at h a = subst AllGood (at-line text at h) a
+
+module _ (line : List ℕ) where
+  pub read_some : (o : Option Datum) → MatchOption o ((datum_in line).good ≡ false) (IsDatum line) → (datum_in line).good ≡ true → IsSome o
+  read_some None n g = clash g n
+  read_some (Some d) h g = refl
+
+  pub read_told : (o : Option Datum) → MatchOption o ((datum_in line).good ≡ false) (IsDatum line) → {d : Datum} → o ≡ Some d → IsDatum line d
+  read_told o m e = subst (λ x. MatchOption x ((datum_in line).good ≡ false) (IsDatum line)) e m

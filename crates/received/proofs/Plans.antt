@@ -1,12 +1,11 @@
 -- A plan of what is written is what mending gives: the head with two times, the lines kept, and the changes.
-use mathlib.Core.Path.{◌≡◌, refl, sym, ◌∙◌, ap, subst}
-use mathlib.Core.Bool.{Bool, true, false}
+use mathlib.Core.Path.{◌≡◌, refl, sym, ◌∙◌, ap}
+use mathlib.Core.Bool.{Bool}
 use mathlib.Core.List.{List, [], ◌∷◌, ◌++◌, flatten, map, append-nil, append_assoc}
 use Prim.Native.Nat.{ℕ, zero, suc, ◌+◌, ◌-◌, ◌≤◌, ◌<◌}
 use native.Mathlib.Omega.{arith}
 use lib.ListN.{length, take, drop, get_or, set, length-append, take-append-drop}
-use lib.Seq.{take_at, take_all, take-suc, drop_at}
-use Rattle.integers.specs.Tests.{clash}
+use lib.Seq.{take_at, take-suc, drop_at}
 use Rattle.text.specs.Numbers.{ascii}
 use Rattle.calendar.specs.Calendar.{most_seconds}
 use Rattle.calendar.specs.Text.{same_text}
@@ -16,16 +15,16 @@ use Rattle.received.specs.declared.heads.Spot.{Spot}
 use Rattle.received.specs.declared.surveying.Surveyed.{Surveyed}
 use Rattle.received.specs.declared.planning.Plan.{Plan}
 use Rattle.received.specs.Lines.{lines_in}
-use Rattle.received.specs.Slots.{line_with, FillAll, Walked, Through, Stopped, walk}
+use Rattle.received.specs.Slots.{line_with}
 use Rattle.received.specs.Profile.{slots}
 use Rattle.received.specs.Data.{point_in, kept_of, first_seconds, last_seconds}
 use Rattle.received.specs.Reading.{front_at, rest_at, number_at}
 use Rattle.received.specs.Mending.{drops_from, time_change, with_times, Mends, Cannot, mend_with, mend_by, mend_of}
-use Rattle.received.specs.Finding.{bytes_of, spot_from, Inside, groups_of, is_through, walk_over}
+use Rattle.received.specs.Finding.{begin_at, Inside, groups_of, walk_over}
 use Rattle.received.specs.Planning.{surveyed_by, survey_of, change_unless, head_of, planned_text, planned_list, PlanOf}
-use Rattle.received.proofs.Cuts.{lines-back, lines-drop, flatten-append}
-use Rattle.received.proofs.Walks.{Sound, walk-sound}
-use Rattle.received.proofs.Reached.{filled, slot-begins, next-begins, line-long}
+use Rattle.received.proofs.Cuts.{lines-back, flatten-append}
+use Rattle.received.proofs.Reached.{filled, next-begins, line-long}
+use Rattle.received.proofs.Headed.{Headed, behind}
 use Rattle.received.proofs.Groups.{group-is}
 use Rattle.received.proofs.Surveys.{drops-count}
 
@@ -42,48 +41,6 @@ flat-two : (s t : List ℕ) (before behind : List (List (List ℕ)))
 unfolding flatten
 flat-two s t before behind =
     ap flatten (flatten-append before ((s ∷ []) ∷ (t ∷ []) ∷ behind)) ∙ flatten-append (flatten before) (s ∷ t ∷ flatten behind)
-
--- ---- the lines before the data
-
--- the walk goes through, and a spot is behind them
-pub record Headed (e : Edition) (text : List ℕ) (head : Spot) : Type 0 where
-  pub rest : List (List ℕ)
-  pub through : is_through (walk_over e text) ≡ true
-  pub walked : walk_over e text ≡ Through (groups_of (walk_over e text)) rest
-  pub lines_are : lines_in text ≡ flatten (groups_of (walk_over e text)) ++ rest
-  pub fill : FillAll (slots e) (groups_of (walk_over e text))
-  pub at-is : head.at ≡ bytes_of (flatten (groups_of (walk_over e text)))
-  pub line-is : head.line ≡ number_at (groups_of (walk_over e text)) 17
-
-module _ (e : Edition) (text : List ℕ) {head : Spot} (p : head ≡ spot_from 0 1 (walk_over e text)) where
-  headed-by : (w : Walked) → walk_over e text ≡ w → Sound (slots e) (lines_in text) w → head ≡ spot_from 0 1 w → head.good ≡ true → Headed e text head
-  unfolding spot_from number_at
-  headed-by (Through groups rest) q (l, f) s g =
-      let same : groups_of (walk_over e text) ≡ groups = ap groups_of q in
-      let place : head.at ≡ bytes_of (flatten groups) = omega (arith, ap (λ p. p.at) s) in
-      let all : take 17 groups ≡ groups = take_all 17 groups (omega (arith, filled (slots e) groups f)) in
-      record {
-        rest = rest;
-        through = ap is_through q;
-        walked = q ∙ ap (λ gs. Through gs rest) (sym same);
-        lines_are = l ∙ ap (λ gs. flatten gs ++ rest) (sym same);
-        fill = subst (FillAll (slots e)) (sym same) f;
-        at-is = place ∙ ap (λ gs. bytes_of (flatten gs)) (sym same);
-        line-is = ap (λ p. p.line) s ∙ ap (λ gs. 1 + length (flatten gs)) (sym all ∙ ap (take 17) (sym same));
-      }
-  headed-by (Stopped before) q s r g = clash g (ap (λ p. p.good) r)
-
-  pub headed : head.good ≡ true → Headed e text head
-  headed g = headed-by (walk_over e text) refl (walk-sound (slots e) (lines_in text)) p g
-
-  cannot-by : (w : Walked) → head ≡ spot_from 0 1 w → head.good ≡ false → mend_by w ≡ Cannot
-  unfolding spot_from mend_by
-  cannot-by (Through groups rest) e g = clash (ap (λ p. p.good) e) g
-  cannot-by (Stopped before) e g = refl
-
-  pub no-head : head.good ≡ false → mend_of e text ≡ Cannot
-  unfolding mend_of
-  no-head g = cannot-by (walk_over e text) p g
 
 -- ---- what mending gives, by the lines kept
 
@@ -111,12 +68,12 @@ module _ (e : Edition) (text : List ℕ) {head : Spot} (h : Headed e text head) 
   seventeen : length groups ≡ 17
   seventeen = filled (slots e) groups h.fill
 
-  behind : lines_in (drop head.at text) ≡ h.rest
-  behind = ap (λ n. lines_in (drop n text)) h.at-is ∙ lines-drop (flatten groups) text h.rest h.lines_are
+  abbrev behind_head : lines_in (drop head.at text) ≡ h.rest
+  behind_head = behind e text h
 
   pub none_left : length (kept_of 0 (lines_in (drop head.at text))) ≡ 0 → mend_of e text ≡ Cannot
   unfolding mend_of mend_by
-  none_left z = ap mend_by h.walked ∙ none-by groups h.rest (kept_of 0 h.rest) (ap (λ ls. length (kept_of 0 ls)) (sym behind) ∙ z)
+  none_left z = ap mend_by h.walked ∙ none-by groups h.rest (kept_of 0 h.rest) (ap (λ ls. length (kept_of 0 ls)) (sym behind_head) ∙ z)
 
   module _ (k : ℕ) where
     abbrev up_to : List ℕ
@@ -195,15 +152,13 @@ module _ (e : Edition) (text : List ℕ) {head : Spot} (h : Headed e text head) 
 
     some-kept : (d.kept ≡ 0 → ⊥) → length (kept_of 0 h.rest) ≡ 0 → ⊥
     unfolding surveyed_by
-    some-kept n z = n (ap (λ x. x.kept) survey ∙ ap (λ ls. length (kept_of 0 ls)) behind ∙ z)
+    some-kept n z = n (ap (λ x. x.kept) survey ∙ ap (λ ls. length (kept_of 0 ls)) behind_head ∙ z)
 
-    module _ (n : d.kept ≡ 0 → ⊥) {start stop : Spot} (b : start ≡ spot_from 0 1 (walk (take 13 (slots e)) (lines_in text)))
-        (f : stop ≡ spot_from 0 1 (walk (take 15 (slots e)) (lines_in text))) {starts stops : Bool} (u : starts ≡ same_text (rest_at groups 13) (time_after d.first))
+    module _ (n : d.kept ≡ 0 → ⊥) {start stop : Spot} (b : start ≡ begin_at groups 13) (f : stop ≡ begin_at groups 15) {starts stops : Bool} (u : starts ≡ same_text (rest_at groups 13) (time_after d.first))
         (v : stops ≡ same_text (rest_at groups 14) (time_after d.last)) where
       abbrev plan : Plan
       plan =
           record {
-            good = true;
             start = start.at;
             stop = stop.at;
             from = head.at;
@@ -218,14 +173,14 @@ module _ (e : Edition) (text : List ℕ) {head : Spot} (h : Headed e text head) 
           }
 
       start-at : start.at ≡ length (up_to 13)
-      start-at = omega (arith, ap (λ p. p.at) (b ∙ slot-begins e text 13 (omega arith) h.through))
+      start-at = omega (arith, ap (λ p. p.at) b)
 
       stop-at : stop.at ≡ length (up_to 15)
-      stop-at = omega (arith, ap (λ p. p.at) (f ∙ slot-begins e text 15 (omega arith) h.through))
+      stop-at = omega (arith, ap (λ p. p.at) f)
 
       start-line : start.line ≡ number_at groups 13
       unfolding number_at
-      start-line = ap (λ p. p.line) (b ∙ slot-begins e text 13 (omega arith) h.through)
+      start-line = ap (λ p. p.line) b
 
       -- the head with its two times
       abbrev times : List (List (List ℕ))
@@ -250,27 +205,27 @@ module _ (e : Edition) (text : List ℕ) {head : Spot} (h : Headed e text head) 
       unfolding planned_text
       text-is =
           flatten-append (flatten times) (kept_of 0 h.rest)
-          ∙ (λ i. head-is i ++ flatten (kept_of 0 (sym behind i)))
+          ∙ (λ i. head-is i ++ flatten (kept_of 0 (sym behind_head i)))
 
       list-is : time_change groups 13 2 d.first ++ (time_change groups 14 3 d.last ++ drops_from (number_at groups 17) 0 h.rest) ≡ planned_list text plan
       unfolding time_change planned_list change_unless
       list-is =
           λ i. change_unless (sym u i) (sym start-line i) 2
-          ++ (change_unless (sym v i) ((next-number ∙ ap (λ k. k + 1) (sym start-line)) i) 3 ++ drops_from (sym h.line-is i) 0 (sym behind i))
+          ++ (change_unless (sym v i) ((next-number ∙ ap (λ k. k + 1) (sym start-line)) i) 3 ++ drops_from (sym h.line-is i) 0 (sym behind_head i))
 
       gives : mend_of e text ≡ Mends out (planned_list text plan)
       unfolding mend_of mend_by
       gives =
-          let first = first-is ∙ ap (λ ls. first_seconds (map point_in (kept_of 0 ls))) behind in
-          let last = last-is ∙ ap (λ ls. last_seconds (map point_in (kept_of 0 ls))) behind in
+          let first = first-is ∙ ap (λ ls. first_seconds (map point_in (kept_of 0 ls))) behind_head in
+          let last = last-is ∙ ap (λ ls. last_seconds (map point_in (kept_of 0 ls))) behind_head in
           ap mend_by h.walked
           ∙ some-by groups h.rest (kept_of 0 h.rest) (some-kept n)
           ∙ (λ i. Mends (flatten (with_times groups (sym first i) (sym last i)) ++ kept_of 0 h.rest)
           (time_change groups 13 2 (sym first i) ++ (time_change groups 14 3 (sym last i) ++ drops_from (number_at groups 17) 0 h.rest)))
           ∙ ap (Mends out) list-is
 
-      pub planned : head.at + d.bytes + d.dropped ≤ length text → d.first ≤ most_seconds → d.last ≤ most_seconds → Inside text head.at head.line
-          → Inside text start.at start.line → PlanOf e text plan
+      pub planned : head.at + d.bytes + d.dropped ≤ length text → d.first ≤ most_seconds → d.last ≤ most_seconds → Inside text head
+          → Inside text start → PlanOf e text plan
       unfolding surveyed_by
       planned room early late i j =
           record {

@@ -17,11 +17,7 @@ use Rattle.integers.specs.Parts.{integers}
 use Rattle.integers.specs.Tests.{joined}
 use Rattle.text.specs.Numbers.{ascii}
 use Rattle.text.specs.Places.{Stands}
-use Rattle.text.specs.declared.Signed.{Signed}
-use Rattle.text.specs.declared.Signed.TheVariants.{Number, Nothing}
-use Rattle.calendar.specs.declared.Reading.{Reading}
-use Rattle.calendar.specs.declared.Reading.TheVariants.{Time}
-use Rattle.calendar.specs.declared.Reading.TheVariants as R
+use Rattle.std.specs.Prelude.{Option, Some, None, is_some, unwrap_or}
 use Rattle.calendar.specs.Calendar.{most_seconds, moment_of}
 use Rattle.calendar.specs.Text.{time_in}
 use Rattle.calendar.proofs.Back.{same_true, text-long, time-exactly}
@@ -29,11 +25,8 @@ use Rattle.decimal.specs.Text.{fixed_text, few_digits}
 use Rattle.decimal.proofs.Digits.{few-digits}
 use Rattle.decimal.specs.Reading.{fixed_at}
 use Rattle.decimal.proofs.Back.{fixed-only}
-use Rattle.message.specs.Request.{seconds_or}
 use Rattle.message.specs.Message.{time_after, texts}
-use Rattle.message.specs.Refusals.{is_some}
-use Rattle.received.specs.declared.data.Field.{Field}
-use Rattle.received.specs.Data.{decimals_of, field_of, data_line, line_of, no_field, field_by, field_at, field_start, value_in, first_ones, datum_in, point_in}
+use Rattle.received.specs.Data.{decimals_of, field_of, data_line, line_of, field_by, field_at, field_start, value_in, first_ones, datum_in, point_in, value_of, end_of}
 use Rattle.received.specs.Messages.{IsPoint}
 
 -- ---- texts at places
@@ -99,30 +92,30 @@ ones-back f values n l e =
 
 -- ---- one field
 
-record There (decimals : ℕ) (line : List ℕ) (at : ℕ) (f : Field) : Type 0 where
-  standing : Stands line at (32 ∷ fixed_text decimals f.value) f.end
-  few : few_digits decimals f.value ≡ true
-  fits : SFits w64 f.value
+record There (decimals : ℕ) (line : List ℕ) (at : ℕ) (f : Option (ℤ × ℕ)) : Type 0 where
+  standing : Stands line at (32 ∷ fixed_text decimals (value_of f)) (end_of f)
+  few : few_digits decimals (value_of f) ≡ true
+  fits : SFits w64 (value_of f)
 
 module _ (decimals : ℕ) (line : List ℕ) (at : ℕ) (space : get_or line at 0 ≡ 32) where
-  by_digits : (v : ℤ) (end : ℕ) → fixed_at decimals line (at + 1) ≡ Number v end → (t : Bool) → few_digits decimals v ≡ t
-      → ((cond t (record { value = v; end = end }) no_field).end ≡ 0 → ⊥) → There decimals line at (cond t (record { value = v; end = end }) no_field)
+  by_digits : (v : ℤ) (end : ℕ) → fixed_at decimals line (at + 1) ≡ Some (v, end) → (t : Bool) → few_digits decimals v ≡ t
+      → (end_of (cond t (Some (v, end)) None) ≡ 0 → ⊥) → There decimals line at (cond t (Some (v, end)) None)
   by_digits v end q true t n =
       let (p, f) = fixed-only decimals line (at + 1) v end q in record { standing = space-first line at space p; few = t; fits = f }
   by_digits v end q false t n = absurd (n refl)
 
-  by_number : (u : Signed) → fixed_at decimals line (at + 1) ≡ u → ((field_by decimals u).end ≡ 0 → ⊥) → There decimals line at (field_by decimals u)
+  by_number : (u : Option (ℤ × ℕ)) → fixed_at decimals line (at + 1) ≡ u → (end_of (field_by decimals u) ≡ 0 → ⊥) → There decimals line at (field_by decimals u)
   unfolding field_by
-  by_number (Number v end) q n = by_digits v end q (few_digits decimals v) refl n
-  by_number Nothing q n = absurd (n refl)
+  by_number (Some (v, end)) q n = by_digits v end q (few_digits decimals v) refl n
+  by_number None q n = absurd (n refl)
 
 by-space : (decimals : ℕ) (line : List ℕ) (at : ℕ) (t : Bool) → eqb (get_or line at 0) 32 ≡ t
-    → ((cond t (field_by decimals (fixed_at decimals line (at + 1))) no_field).end ≡ 0 → ⊥)
-    → There decimals line at (cond t (field_by decimals (fixed_at decimals line (at + 1))) no_field)
+    → (end_of (cond t (field_by decimals (fixed_at decimals line (at + 1))) None) ≡ 0 → ⊥)
+    → There decimals line at (cond t (field_by decimals (fixed_at decimals line (at + 1))) None)
 by-space decimals line at true t n = by_number decimals line at (eqb-true (get_or line at 0) 32 t) (fixed_at decimals line (at + 1)) refl n
 by-space decimals line at false t n = absurd (n refl)
 
-field-there : (decimals : ℕ) (line : List ℕ) (at : ℕ) → ((field_at decimals line at).end ≡ 0 → ⊥) → There decimals line at (field_at decimals line at)
+field-there : (decimals : ℕ) (line : List ℕ) (at : ℕ) → (end_of (field_at decimals line at) ≡ 0 → ⊥) → There decimals line at (field_at decimals line at)
 unfolding field_at
 field-there decimals line zero n = absurd (n refl)
 field-there decimals line (suc k) n = by-space decimals line (suc k) (eqb (get_or line (suc k) 0) 32) refl n
@@ -132,7 +125,7 @@ field-there decimals line (suc k) n = by-space decimals line (suc k) (eqb (get_o
 module _ (line : List ℕ) where
   zero-next : (k : ℕ) → field_start line k ≡ 0 → field_start line (suc k) ≡ 0
   unfolding field_start field_at
-  zero-next k e = ap (λ at. (field_at (decimals_of k) line at).end) e
+  zero-next k e = ap (λ at. end_of (field_at (decimals_of k) line at)) e
 
   zero-later : (j k : ℕ) → k + j ≡ 6 → field_start line k ≡ 0 → field_start line 6 ≡ 0
   zero-later zero k e z = subst (λ m. field_start line m ≡ 0) (sym (add-zero k) ∙ e) z
@@ -149,7 +142,7 @@ module _ (line : List ℕ) where
     field-stands : (k : ℕ) → k < 6 → Stands line (field_start line k) (field_of values k) (field_start line (suc k))
     unfolding field_start field_of value_in ascii
     field-stands k h =
-        subst (λ v. Stands line (field_start line k) (32 ∷ fixed_text (decimals_of k) v) (field_at (decimals_of k) line (field_start line k)).end)
+        subst (λ v. Stands line (field_start line k) (32 ∷ fixed_text (decimals_of k) v) (end_of (field_at (decimals_of k) line (field_start line k))))
         (sym (get_d-ones (value_in line) 6 k h)) (there-at k h).standing
 
     fields-stand : (k : ℕ) → k ≤ 6 → Stands line 19 (texts (field_of values) k) (field_start line k)
@@ -173,11 +166,11 @@ module _ (line : List ℕ) where
 
 -- ---- a line that can be read is the line of its point
 
-module _ (line : List ℕ) (s : ℕ) (t : time_in (take 19 line) ≡ Time s) (q : drop (field_start line 6) line ≡ 10 ∷ []) where
+module _ (line : List ℕ) (s : ℕ) (t : time_in (take 19 line) ≡ Some s) (q : drop (field_start line 6) line ≡ 10 ∷ []) where
   timed : (s ≤ most_seconds) × (take 19 line ≡ time_after s)
   timed = (time-exactly (take 19 line) s).0 t
 
-  not-zero : field_start line 6 ≡ 0 → ⊥
+  pub not-zero : field_start line 6 ≡ 0 → ⊥
   not-zero z =
       let one : line ≡ 10 ∷ [] = sym (ap (λ i. drop i line) z) ∙ q in
       omega (arith, ap length one, length-take 19 line, ap length timed.1, text-long (moment_of s))
@@ -210,14 +203,14 @@ datum-sound line g =
     let (p, q) = simp joined at g in
     by (time_in (take 19 line)) refl p (same_true (drop (field_start line 6) line) (ascii "\n") q)
   where
-    told : (s : ℕ) → time_in (take 19 line) ≡ Time s → drop (field_start line 6) line ≡ ascii "\n" → SoundLine line
+    told : (s : ℕ) → time_in (take 19 line) ≡ Some s → drop (field_start line 6) line ≡ ascii "\n" → SoundLine line
     told s t q =
-        let e : seconds_or (time_in (take 19 line)) ≡ s = ap seconds_or t in
+        let e : unwrap_or (time_in (take 19 line)) 0 ≡ s = ap (λ o. unwrap_or o 0) t in
         record {
           line-is = subst (λ n. line ≡ data_line n (first_ones (value_in line) 6)) (sym e) (line-back line s t q);
           point-is = subst (λ n. IsPoint (record { seconds = n; values = first_ones (value_in line) 6 })) (sym e) (point-back line s t q);
         }
 
-    by : (r : Reading) → time_in (take 19 line) ≡ r → is_some r ≡ true → drop (field_start line 6) line ≡ ascii "\n" → SoundLine line
-    by (R.Time s) t p q = told s t q
-    by R.Nothing t p q = absurd (let z : ◌≡◌ {A = ℕ} 0 1 = cc in omega arith)
+    by : (r : Option ℕ) → time_in (take 19 line) ≡ r → is_some r ≡ true → drop (field_start line 6) line ≡ ascii "\n" → SoundLine line
+    by (Some s) t p q = told s t q
+    by None t p q = absurd (let z : ◌≡◌ {A = ℕ} 0 1 = cc in omega arith)

@@ -1,14 +1,14 @@
 -- A walk that goes through: where each slot begins, and where the value of a slot for one line stands.
 use mathlib.Core.Path.{◌≡◌, refl, sym, ◌∙◌, ap}
 use mathlib.Core.Bool.{true, false}
-use mathlib.Core.List.{List, [], ◌∷◌, ◌++◌, flatten, map, append_assoc, append-nil}
+use mathlib.Core.List.{List, [], ◌∷◌, ◌++◌, flatten, append_assoc, append-nil}
 use Prim.Native.Nat.{ℕ, zero, suc, ◌+◌, ◌-◌, ◌≤◌, ◌<◌}
 use native.Mathlib.Numerals.{add-one}
 use native.Mathlib.Omega.{arith}
 use lib.ListN.{length, take, drop, get_or, length-append, length-drop, take-append-drop, drop_of_length-le}
 use lib.Seq.{drop-cons, get_or-take, take_at, take-suc, length-take-le, drop_at, drop-drop, drop-append-le, take-append-le}
 use Rattle.message.specs.declared.Edition.{Edition}
-use Rattle.message.specs.declared.Edition.TheVariants.{Two, Three}
+use Rattle.std.specs.Prelude.{Ok}
 use Rattle.received.specs.declared.Place.{Place}
 use Rattle.received.specs.declared.heads.Spot.{Spot}
 use Rattle.received.specs.Lines.{lines_in}
@@ -16,10 +16,11 @@ use Rattle.received.specs.Slots.{Form, rest_in, has_front, is_of, Slot, one, per
 use Rattle.received.specs.Profile.{comment_form, slots}
 use Rattle.received.specs.Reading.{slot_at, front_at, line_at, rest_at}
 use Rattle.received.specs.Answer.{place_at}
-use Rattle.received.specs.Finding.{is_one, bytes_of, spot, spot_from, groups_of, is_through, walk_over}
+use Rattle.received.specs.Finding.{is_one, bytes_of, spot, spot_from, begin_at, groups_of, is_through, walk_over}
 use Rattle.received.proofs.Cuts.{lines-back, bytes-append, flatten-append}
 use Rattle.received.proofs.Walks.{Sound, walk-sound, after_all, next, walk-append, spot-none}
 use Rattle.received.proofs.Fronts.{of-front, front_long}
+use Rattle.received.proofs.Dispatch.{front_same}
 
 no {ℓ} : {A : Type ℓ} → false ≡ true → A
 no e = absurd (let z : ◌≡◌ {A = ℕ} 0 1 = cc in omega arith)
@@ -37,18 +38,6 @@ filled_at [] groups k d f h = absurd (omega arith)
 filled_at (s ∷ slots) [] k d f h = absurd f
 filled_at (s ∷ slots) (group ∷ groups) zero d f h = f.0
 filled_at (s ∷ slots) (group ∷ groups) (suc k) d f h = filled_at slots groups k d f.1 (omega arith)
-
--- ---- the fronts of the slots are the same in both editions
-
-fronts-of : (ss : List Slot) (k : ℕ) → (form_of (get_or ss k (any comment_form))).front ≡ get_or (map (λ s. (form_of s).front) ss) k comment_form.front
-fronts-of [] zero = refl
-fronts-of [] (suc k) = refl
-fronts-of (s ∷ ss) zero = refl
-fronts-of (s ∷ ss) (suc k) = fronts-of ss k
-
-front_same : (e : Edition) (k : ℕ) → (form_of (slot_at e k)).front ≡ front_at k
-front_same Two k = refl
-front_same Three k = fronts-of (slots Three) k ∙ sym (fronts-of (slots Two) k)
 
 -- a line of slot k has its front
 pub has-front : (e : Edition) (k : ℕ) (line : List ℕ) → is_of (form_of (slot_at e k)) line ≡ true → has_front (front_at k) line ≡ true
@@ -68,28 +57,28 @@ all-through (group ∷ groups) w t = by (after_all groups w) t (all-through grou
 
 module _ (first rest : List Slot) (lines : List (List ℕ)) (at line : ℕ) where
   reached-by : (w : Walked) → Sound first lines w → is_through (next rest w) ≡ true
-      → spot_from at line w ≡ spot true at line (flatten (take (length first) (groups_of (next rest w))))
+      → spot_from at line w ≡ Ok (spot at line (flatten (take (length first) (groups_of (next rest w)))))
   unfolding spot_from
   reached-by (Through groups behind) (e, f) t =
-      ap (λ gs. spot true at line (flatten gs))
+      ap (λ gs. Ok (spot at line (flatten gs)))
       (sym (ap (take (length first)) (all-through groups (walk rest behind) t) ∙ take_at groups (groups_of (walk rest behind)) (length first) (filled first groups f)))
   reached-by (Stopped before) s t = no t
 
   pub reached : is_through (walk (first ++ rest) lines) ≡ true
-      → spot_from at line (walk first lines) ≡ spot true at line (flatten (take (length first) (groups_of (walk (first ++ rest) lines))))
+      → spot_from at line (walk first lines) ≡ Ok (spot at line (flatten (take (length first) (groups_of (walk (first ++ rest) lines)))))
   reached t =
       reached-by (walk first lines) (walk-sound first lines) (ap is_through (sym (walk-append first rest lines)) ∙ t)
-      ∙ ap (λ w. spot true at line (flatten (take (length first) (groups_of w)))) (sym (walk-append first rest lines))
+      ∙ ap (λ w. Ok (spot at line (flatten (take (length first) (groups_of w))))) (sym (walk-append first rest lines))
 
 -- where slot k begins
 pub slot-begins : (e : Edition) (text : List ℕ) (k : ℕ) → k ≤ 17 → is_through (walk_over e text) ≡ true
-    → spot_from 0 1 (walk (take k (slots e)) (lines_in text)) ≡ spot true 0 1 (flatten (take k (groups_of (walk_over e text))))
+    → spot_from 0 1 (walk (take k (slots e)) (lines_in text)) ≡ Ok (begin_at (groups_of (walk_over e text)) k)
 slot-begins e text k h t =
     let n : length (take k (slots e)) ≡ k = length-take-le k (slots e) h in
     let whole : take k (slots e) ++ drop k (slots e) ≡ slots e = take-append-drop k (slots e) in
     reached (take k (slots e)) (drop k (slots e)) (lines_in text) 0 1 (ap (λ ss. is_through (walk ss (lines_in text))) whole ∙ t)
-    ∙ ap (λ ss. spot true 0 1 (flatten (take (length (take k (slots e))) (groups_of (walk ss (lines_in text)))))) whole
-    ∙ ap (λ j. spot true 0 1 (flatten (take j (groups_of (walk_over e text))))) n
+    ∙ ap (λ ss. Ok (begin_at (groups_of (walk ss (lines_in text))) (length (take k (slots e))))) whole
+    ∙ ap (λ j. Ok (begin_at (groups_of (walk_over e text)) j)) n
 
 -- ---- the line of a slot for one line
 
@@ -207,11 +196,10 @@ module _ (e : Edition) (text : List ℕ) (t : is_through (walk_over e text) ≡ 
   abbrev heads : List (List (List ℕ))
   heads = groups_of (walk_over e text)
 
-  pub placed : {front : ℕ} → front ≡ length (front_at k) → {p q : Spot} → p ≡ spot_from 0 1 (walk (take k (slots e)) (lines_in text))
-      → q ≡ spot_from 0 1 (walk (take (k + 1) (slots e)) (lines_in text)) → Placed e text k front p.at q.at
+  pub placed : {front : ℕ} → front ≡ length (front_at k) → {p q : Spot} → p ≡ begin_at heads k → q ≡ begin_at heads (k + 1) → Placed e text k front p.at q.at
   placed {front} f {p} {q} here then =
-      let x : p.at ≡ 0 + bytes_of (flatten (take k heads)) = ap (λ s. s.at) (here ∙ slot-begins e text k (omega arith) t) in
-      let y : q.at ≡ 0 + bytes_of (flatten (take (k + 1) heads)) = ap (λ s. s.at) (then ∙ slot-begins e text (k + 1) (omega arith) t) in
+      let x : p.at ≡ 0 + bytes_of (flatten (take k heads)) = ap (λ s. s.at) here in
+      let y : q.at ≡ 0 + bytes_of (flatten (take (k + 1) heads)) = ap (λ s. s.at) then in
       let z = next-begins e text t k h a in
       let l = line-long e text t k h a in
       record {
@@ -240,8 +228,8 @@ slot_next e k j l h =
     ∙ (λ i. get_or-take k (slots e) j (any comment_form) l i ∷ drop (sym (add-one j) i) (take k (slots e)))
 
 pub none_left : (e : Edition) (text : List ℕ) (at line k j : ℕ) → k ≤ j → k ≤ 17
-    → record { good = true; at = at; line = line } ≡ spot_from at line (walk (drop j (take k (slots e))) (lines_in (drop at text)))
+    → Ok (record { at = at; line = line }) ≡ spot_from at line (walk (drop j (take k (slots e))) (lines_in (drop at text)))
 unfolding walk spot_from flatten
 none_left e text at line k j l h =
     sym (ap (λ ss. spot_from at line (walk ss (lines_in (drop at text)))) (drop_of_length-le (take k (slots e)) {i = j} (omega (arith, length-take-le k (slots e) h)))
-    ∙ spot-none true at line)
+    ∙ ap Ok (spot-none at line))

@@ -1,6 +1,7 @@
 -- The data lines of a text one after another: how many are accepted, and the times of the first and the last.
 use mathlib.Core.Path.{◌≡◌, refl, sym, ◌∙◌, ap}
-use mathlib.Core.Bool.{Bool, true, false}
+use mathlib.Core.Bool.{Bool, true, false, cond}
+use Rattle.std.specs.Prelude.{Ok, Err}
 use mathlib.Core.List.{List, [], ◌∷◌, ◌++◌, append-nil, append_assoc}
 use Prim.Native.Nat.{ℕ, suc, ◌+◌, ◌≤◌, ◌<◌}
 use native.Mathlib.Nat.{add-zero}
@@ -8,10 +9,9 @@ use native.Mathlib.Numerals.{add-one}
 use native.Mathlib.Omega.{arith}
 use lib.Dec.{ltb}
 use lib.ListN.{length, drop, length-append}
-use borrow.Author.Tests.{eq-eqb, ne_eqb}
+use borrow.Author.Tests.{eq-eqb, ne_eqb, lt-ltb, le-ltb}
 use Rattle.integers.specs.Tests.{◌and◌}
 use Rattle.calendar.specs.Calendar.{most_seconds}
-use Rattle.received.specs.declared.data.Scanned.{Scanned}
 use Rattle.received.specs.Lines.{lines_in, past_line}
 use Rattle.received.specs.Data.{Point, datum_in, point_in, accepts, points_in, first_seconds, last_from, last_seconds}
 use Rattle.received.specs.Reading.{all_read}
@@ -101,24 +101,36 @@ module _ (text : List ℕ) (from : ℕ) {at count first last earliest : ℕ} (s 
   whole = lines_in (drop from text)
 
   -- no more is accepted
-  stopped_by : points_in earliest (lines_in (drop at text)) ≡ [] → {all : Bool} → all ≡ all_read s.done whole
-      → ◌≡◌ {A = Scanned} record { all = all; count = count; first = first; last = last } (scanned_of whole)
-  unfolding scanned_by
-  stopped_by e a =
-      let d : s.done ≡ points_in 0 whole = sym (s.points ∙ ap (λ ps. s.done ++ ps) e ∙ append-nil s.done) in
-      λ i. record {
-        all = (a ∙ ap (λ ps. all_read ps whole) d) i;
-        count = (s.counted ∙ ap length d) i;
-        first = (s.starts ∙ ap first_seconds d) i;
-        last = (s.ends ∙ ap last_seconds d) i;
-      }
+  module _ (e : points_in earliest (lines_in (drop at text)) ≡ []) where
+    all_done : s.done ≡ points_in 0 whole
+    all_done = sym (s.points ∙ ap (λ ps. s.done ++ ps) e ∙ append-nil s.done)
 
-  pub over : length text ≤ at → {all : Bool} → all ≡ ltb 0 count → ◌≡◌ {A = Scanned} record { all = all; count = count; first = first; last = last } (scanned_of whole)
-  over h e =
-      let none = past_end text at h in
-      let n : length s.done ≡ length whole = sym (s.lines ∙ ap (λ ls. length s.done + length ls) none ∙ add-zero (length s.done)) in
-      stopped_by (ap (points_in earliest) none ∙ none-taken earliest)
-      (e ∙ ap (ltb 0) s.counted ∙ every s.done whole n)
+    some-read : all_read s.done whole ≡ true → Ok (record { count = count; first = first; last = last }) ≡ scanned_of whole
+    unfolding scanned_by
+    some-read a =
+        (λ i. Ok (record { count = s.counted i; first = s.starts i; last = s.ends i }))
+        ∙ sym (ap (λ t. cond t (Ok (record { count = length s.done; first = first_seconds s.done; last = last_seconds s.done })) (Err (length s.done))) a)
+        ∙ ap (λ ps. scanned_by ps whole) all_done
+
+    not-read : all_read s.done whole ≡ false → Err count ≡ scanned_of whole
+    unfolding scanned_by
+    not-read a =
+        ap Err s.counted
+        ∙ sym (ap (λ t. cond t (Ok (record { count = length s.done; first = first_seconds s.done; last = last_seconds s.done })) (Err (length s.done))) a)
+        ∙ ap (λ ps. scanned_by ps whole) all_done
+
+  module _ (h : length text ≤ at) where
+    over : points_in earliest (lines_in (drop at text)) ≡ []
+    over = ap (points_in earliest) (past_end text at h) ∙ none-taken earliest
+
+    every-done : ltb 0 (length s.done) ≡ all_read s.done whole
+    every-done = every s.done whole (sym (s.lines ∙ ap (λ ls. length s.done + length ls) (past_end text at h) ∙ add-zero (length s.done)))
+
+    pub all-over : (count ≡ 0 → ⊥) → Ok (record { count = count; first = first; last = last }) ≡ scanned_of whole
+    all-over n = some-read over (sym every-done ∙ lt-ltb 0 (length s.done) (omega (arith, s.counted, n)))
+
+    pub none-over : count ≡ 0 → Err 0 ≡ scanned_of whole
+    none-over z = ap Err (sym z) ∙ not-read over (sym every-done ∙ le-ltb 0 (length s.done) (omega (arith, s.counted, z)))
 
   module _ (h : at < length text) where
     abbrev line : List ℕ
@@ -127,10 +139,10 @@ module _ (text : List ℕ) (from : ℕ) {at count first last earliest : ℕ} (s 
     abbrev others : List (List ℕ)
     others = lines_in (drop (past_line text at) text)
 
-    pub stops : accepts earliest (datum_in line) ≡ false → ◌≡◌ {A = Scanned} record { all = false; count = count; first = first; last = last } (scanned_of whole)
+    pub stops : accepts earliest (datum_in line) ≡ false → Err count ≡ scanned_of whole
     stops e =
-        stopped_by (ap (points_in earliest) (at-line text at h) ∙ not_taken earliest line others e)
-        (not-every s.done whole (λ n. omega (arith, n, s.lines ∙ ap (λ ls. length s.done + length ls) (at-line text at h))))
+        not-read (ap (points_in earliest) (at-line text at h) ∙ not_taken earliest line others e)
+        (sym (not-every s.done whole (λ n. omega (arith, n, s.lines ∙ ap (λ ls. length s.done + length ls) (at-line text at h)))))
 
     pub goes_on : accepts earliest (datum_in line) ≡ true → {end : ℕ} → end ≡ past_line text at → {n : ℕ} → n ≡ (datum_in line).seconds → n ≤ most_seconds
         → {f : ℕ} → f ≡ first_seconds (s.done ++ (point_in line ∷ [])) → f ≤ most_seconds → Scanning text from end (count + 1) f n (n + 1)

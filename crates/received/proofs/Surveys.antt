@@ -87,14 +87,14 @@ module _ (text : List ℕ) {at earliest : ℕ} {r : Step} (l : Looked text at ea
   pub line-size : length line ≡ r.end - at
   line-size = line-long text at inside ∙ ap (λ e. e - at) (sym l.past)
 
-  later : suc (datum_in line).seconds ≡ r.seconds + 1
-  later = ap suc (sym l.time) ∙ sym (add-one r.seconds)
+  later : r.good ≡ true → suc (datum_in line).seconds ≡ r.seconds + 1
+  later g = ap suc (sym (l.time g)) ∙ sym (add-one r.seconds)
 
   pub kept_here : r.good ≡ true → kept_of earliest (lines_in (drop at text)) ≡ line ∷ kept_of (r.seconds + 1) others
   kept_here g =
       ap (kept_of earliest) lines_at
       ∙ kept-yes earliest line others (sym l.taken ∙ g)
-      ∙ ap (λ e. line ∷ kept_of e others) later
+      ∙ ap (λ e. line ∷ kept_of e others) (later g)
 
   -- the bytes of the lines kept
   pub bytes-here : r.good ≡ true
@@ -110,7 +110,7 @@ module _ (text : List ℕ) {at earliest : ℕ} {r : Step} (l : Looked text at ea
   drops-here n g =
       ap (drops_from n earliest) lines_at
       ∙ drops-yes earliest line others n (sym l.taken ∙ g)
-      ∙ (λ i. drops_from (sym (add-one n) i) (later i) others)
+      ∙ (λ i. drops_from (sym (add-one n) i) (later g i) others)
 
   pub drops-gone : (n : ℕ) → r.good ≡ false → drops_from n earliest (lines_in (drop at text)) ≡ change n 1 ∷ drops_from (n + 1) earliest others
   drops-gone n g =
@@ -221,7 +221,7 @@ module _ (text : List ℕ) (from : ℕ) {at kept bytes dropped first last earlie
           counted = omega (arith, s.counted, length-append s.done (here ∷ []));
           sized = sym (more ∙ (λ i. sym s.sized i + size i));
           starts = e;
-          ends = l.time ∙ sym (last_more 0 s.done here);
+          ends = l.time g ∙ sym (last_more 0 s.done here);
           within = l.within;
           room = omega (arith, s.room, l.more);
           some = omega (arith, s.some, l.more);
@@ -229,8 +229,8 @@ module _ (text : List ℕ) (from : ℕ) {at kept bytes dropped first last earlie
           late = l.early;
         }
 
-    pub first-here : kept ≡ 0 → r.seconds ≡ first_seconds (map point_in (s.done ++ (line_from text at ∷ [])))
-    first-here z = l.time ∙ first-of s.done (line_from text at) (sym s.counted ∙ z)
+    pub first-here : r.good ≡ true → kept ≡ 0 → r.seconds ≡ first_seconds (map point_in (s.done ++ (line_from text at ∷ [])))
+    first-here g z = l.time g ∙ first-of s.done (line_from text at) (sym s.counted ∙ z)
 
     pub first-before : (kept ≡ 0 → ⊥) → first ≡ first_seconds (map point_in (s.done ++ (line_from text at ∷ [])))
     first-before n = s.starts ∙ first-stays s.done (line_from text at) (λ z. n (s.counted ∙ z))

@@ -7,6 +7,8 @@ use native.Mathlib.Nat.{add-zero, add_assoc}
 use native.Mathlib.Omega.{arith}
 use lib.ListN.{length, drop, length-append}
 use lib.Seq.{drop-drop}
+use Rattle.std.specs.Prelude.{Result, Ok, Err}
+use Rattle.std.specs.Result.{result_unwrap_or}
 use Rattle.received.specs.declared.heads.Spot.{Spot}
 use Rattle.received.specs.Lines.{lines_in, past_line}
 use Rattle.received.specs.Slots.{Form, is_of, Slot, one, perhaps, any, AllOf, Fills, FillAll, Walked, Through, Stopped, leading, behind, first_of, past_first, after, walk}
@@ -124,22 +126,22 @@ walk-append (any f ∷ first) slots lines =
 
 -- ---- where a walk ends
 
-spot-append : (good : Bool) (at line : ℕ) (xs ys : List (List ℕ)) → spot good at line (xs ++ ys) ≡ spot good (at + bytes_of xs) (line + length xs) ys
-spot-append good at line xs ys =
-    λ i. record {
-      good = good;
-      at = (ap (λ k. at + k) (bytes-append xs ys) ∙ sym (add_assoc at (bytes_of xs) (bytes_of ys))) i;
-      line = (ap (λ k. line + k) (length-append xs ys) ∙ sym (add_assoc line (length xs) (length ys))) i;
-    }
+module _ (at line : ℕ) where
+  spot-append : (xs ys : List (List ℕ)) → spot at line (xs ++ ys) ≡ spot (at + bytes_of xs) (line + length xs) ys
+  spot-append xs ys =
+      λ i. record {
+        at = (ap (λ k. at + k) (bytes-append xs ys) ∙ sym (add_assoc at (bytes_of xs) (bytes_of ys))) i;
+        line = (ap (λ k. line + k) (length-append xs ys) ∙ sym (add_assoc line (length xs) (length ys))) i;
+      }
 
-spot-after : (at line : ℕ) (group : List (List ℕ)) (w : Walked) → spot_from at line (after group w) ≡ spot_from (at + bytes_of group) (line + length group) w
-unfolding spot_from after flatten
-spot-after at line group (Through groups rest) = spot-append true at line group (flatten groups)
-spot-after at line group (Stopped before) = spot-append false at line group before
+  spot-after : (group : List (List ℕ)) (w : Walked) → spot_from at line (after group w) ≡ spot_from (at + bytes_of group) (line + length group) w
+  unfolding spot_from after flatten
+  spot-after group (Through groups rest) = ap Ok (spot-append group (flatten groups))
+  spot-after group (Stopped before) = ap (λ s. Err s.line) (spot-append group before)
 
-pub spot-none : (good : Bool) (at line : ℕ) → spot good at line [] ≡ record { good = good; at = at; line = line }
-unfolding flatten
-spot-none good at line = λ i. record { good = good; at = add-zero at i; line = add-zero line i }
+  pub spot-none : spot at line [] ≡ record { at = at; line = line }
+  unfolding flatten
+  spot-none = λ i. record { at = add-zero at i; line = add-zero line i }
 
 spot-all : (at line : ℕ) (groups : List (List (List ℕ))) (w : Walked) → spot_from at line (after_all groups w) ≡ spot_from (at + bytes_of (flatten groups)) (line + length (flatten groups)) w
 unfolding flatten
@@ -160,41 +162,37 @@ module _ (text : List ℕ) (at line : ℕ) (s : Slot) (slots : List Slot) where
   abbrev here : List (List ℕ)
   here = lines_in (drop at text)
 
-  passed-by : (w : Walked) → Sound (s ∷ []) here w → (spot_from at line w).good ≡ true
-      → spot_from at line (next slots w) ≡ spot_from (spot_from at line w).at (spot_from at line w).line (walk slots (lines_in (drop (spot_from at line w).at text)))
+  passed-by : (w : Walked) → Sound (s ∷ []) here w → (to : Spot) → Ok to ≡ spot_from at line w
+      → spot_from at line (next slots w) ≡ spot_from to.at to.line (walk slots (lines_in (drop to.at text)))
   unfolding spot_from
-  passed-by (Through groups rest) (e, f) g =
+  passed-by (Through groups rest) (e, f) to g =
+      let same : spot at line (flatten groups) ≡ to = cc in
       spot-all at line groups (walk slots rest)
       ∙ ap (λ ls. spot_from (at + bytes_of (flatten groups)) (line + length (flatten groups)) (walk slots ls))
       (sym (lines-drop (flatten groups) (drop at text) rest e) ∙ ap lines_in (drop-drop (bytes_of (flatten groups)) at text))
-  passed-by (Stopped before) h g = absurd (let z : ◌≡◌ {A = ℕ} 0 1 = cc in omega arith)
+      ∙ ap (λ p. spot_from p.at p.line (walk slots (lines_in (drop p.at text)))) same
+  passed-by (Stopped before) h to g = cc
 
-  stopped_by : (w : Walked) → (spot_from at line w).good ≡ false → spot_from at line (next slots w) ≡ spot_from at line w
+  stopped_by : (w : Walked) (n : ℕ) → Err n ≡ spot_from at line w → Err n ≡ spot_from at line (next slots w)
   unfolding spot_from
-  stopped_by (Through groups rest) g = absurd (let z : ◌≡◌ {A = ℕ} 0 1 = cc in omega arith)
-  stopped_by (Stopped before) g = refl
+  stopped_by (Through groups rest) n g = cc
+  stopped_by (Stopped before) n g = g
 
-  module _ {r : Spot} (e : r ≡ spot_from at line (walk (s ∷ []) here)) where
-    pub passed : r.good ≡ true → spot_from at line (walk (s ∷ slots) here) ≡ spot_from r.at r.line (walk slots (lines_in (drop r.at text)))
-    passed g =
-        ap (spot_from at line) (walk-append (s ∷ []) slots here)
-        ∙ passed-by (walk (s ∷ []) here) (walk-sound (s ∷ []) here) (ap (λ p. p.good) (sym e) ∙ g)
-        ∙ ap (λ p. spot_from p.at p.line (walk slots (lines_in (drop p.at text)))) (sym e)
+  pub passed : (to : Spot) → Ok to ≡ spot_from at line (walk (s ∷ []) here) → spot_from at line (walk (s ∷ slots) here) ≡ spot_from to.at to.line (walk slots (lines_in (drop to.at text)))
+  passed to e = ap (spot_from at line) (walk-append (s ∷ []) slots here) ∙ passed-by (walk (s ∷ []) here) (walk-sound (s ∷ []) here) to e
 
-    pub stopped : r.good ≡ false → r ≡ spot_from at line (walk (s ∷ slots) here)
-    stopped g =
-        e ∙ sym (ap (spot_from at line) (walk-append (s ∷ []) slots here) ∙ stopped_by (walk (s ∷ []) here) (ap (λ p. p.good) (sym e) ∙ g))
+  pub stopped : (n : ℕ) → Err n ≡ spot_from at line (walk (s ∷ []) here) → Err n ≡ spot_from at line (walk (s ∷ slots) here)
+  stopped n e = stopped_by (walk (s ∷ []) here) n e ∙ sym (ap (spot_from at line) (walk-append (s ∷ []) slots here))
 
 -- ---- one slot by its lines
 
 module _ (f : Form) (text : List ℕ) (at line : ℕ) where
-  pub none-there : length text ≤ at → record { good = false; at = at; line = line } ≡ spot_from at line (walk (one f ∷ []) (lines_in (drop at text)))
-  unfolding walk spot_from
-  none-there h = sym (ap (λ ls. spot_from at line (walk (one f ∷ []) ls)) (past_end text at h) ∙ spot-none false at line)
+  abbrev pub ends : Slot → Result Spot ℕ
+  ends s = spot_from at line (walk (s ∷ []) (lines_in (drop at text)))
 
-  pub any-over : length text ≤ at → record { good = true; at = at; line = line } ≡ spot true at line (leading f (lines_in (drop at text)))
-  unfolding leading
-  any-over h = sym (ap (λ ls. spot true at line (leading f ls)) (past_end text at h) ∙ spot-none true at line)
+  pub none-there : length text ≤ at → Err line ≡ ends (one f)
+  unfolding walk spot_from
+  none-there h = sym (ap (λ ls. spot_from at line (walk (one f ∷ []) ls)) (past_end text at h) ∙ ap Err (add-zero line))
 
   module _ (h : at < length text) where
     abbrev first : List ℕ
@@ -203,73 +201,113 @@ module _ (f : Form) (text : List ℕ) (at line : ℕ) where
     abbrev others : List (List ℕ)
     others = lines_in (drop (past_line text at) text)
 
-    along : (good : Bool) (rest : List (List ℕ)) → spot good at line (first ∷ rest) ≡ spot good (past_line text at) (line + 1) rest
+    along : (rest : List (List ℕ)) → spot at line (first ∷ rest) ≡ spot (past_line text at) (line + 1) rest
     unfolding flatten
-    along good rest =
+    along rest =
         let n : at + length (first ++ flatten rest) ≡ past_line text at + length (flatten rest) =
         omega (arith, length-append first (flatten rest), line-long text at h, past_more text at h) in
-        λ i. record { good = good; at = n i; line = m i }
+        λ i. record { at = n i; line = m i }
       where
         m : line + suc (length rest) ≡ line + 1 + length rest
         m = omega arith
 
-    pub not-of : is_of f first ≡ false → record { good = false; at = at; line = line } ≡ spot_from at line (walk (one f ∷ []) (lines_in (drop at text)))
+    pub not-of : is_of f first ≡ false → Err line ≡ ends (one f)
     unfolding walk spot_from
     not-of e =
         sym (ap (λ ls. spot_from at line (walk (one f ∷ []) ls)) (at-line text at h)
         ∙ ap (λ t. spot_from at line (elim t as (λ _. Walked) [ true ↦ after (first ∷ []) (Through [] others) | false ↦ Stopped [] ])) e
-        ∙ spot-none false at line)
+        ∙ ap Err (add-zero line))
 
-    pub is-of : is_of f first ≡ true
-        → record { good = true; at = past_line text at; line = line + 1 } ≡ spot_from at line (walk (one f ∷ []) (lines_in (drop at text)))
+    pub is-of : is_of f first ≡ true → Ok (record { at = past_line text at; line = line + 1 }) ≡ ends (one f)
     unfolding walk spot_from after flatten
     is-of e =
         sym (ap (λ ls. spot_from at line (walk (one f ∷ []) ls)) (at-line text at h)
         ∙ ap (λ t. spot_from at line (elim t as (λ _. Walked) [ true ↦ after (first ∷ []) (Through [] others) | false ↦ Stopped [] ])) e
-        ∙ along true []
-        ∙ spot-none true (past_line text at) (line + 1))
+        ∙ ap Ok (along [] ∙ spot-none (past_line text at) (line + 1)))
 
-    pub any-done : is_of f first ≡ false → record { good = true; at = at; line = line } ≡ spot true at line (leading f (lines_in (drop at text)))
-    unfolding leading
-    any-done e = sym (ap (λ ls. spot true at line (leading f ls)) (at-line text at h) ∙ ap (λ t. spot true at line (elim t as (λ _. List (List ℕ)) [ true ↦ first ∷ leading f others | false ↦ [] ])) e ∙ spot-none true at line)
+  -- ---- one line or none
 
-    pub any-more : is_of f first ≡ true → spot true (past_line text at) (line + 1) (leading f others) ≡ spot true at line (leading f (lines_in (drop at text)))
-    unfolding leading
-    any-more e =
-        sym (ap (λ ls. spot true at line (leading f ls)) (at-line text at h) ∙ ap (λ t. spot true at line (elim t as (λ _. List (List ℕ)) [ true ↦ first ∷ leading f others | false ↦ [] ])) e ∙ along true (leading f others))
-
-  pub any-spot : spot true at line (leading f (lines_in (drop at text))) ≡ spot_from at line (walk (any f ∷ []) (lines_in (drop at text)))
-  unfolding walk spot_from after flatten
-  any-spot = ap (spot true at line) (sym (append-nil (leading f (lines_in (drop at text)))))
-
-  -- a slot for one line or none
-  pub not_there : {may : Bool} (lines : List (List ℕ)) → may ≡ false → record { good = true; at = at; line = line } ≡ spot_from at line (walk (perhaps may f ∷ []) lines)
+  pub not_there : {may : Bool} → may ≡ false → Ok (record { at = at; line = line }) ≡ ends (perhaps may f)
   unfolding walk spot_from after flatten first_of past_first
-  not_there lines e = sym (ap (λ m. spot_from at line (walk (perhaps m f ∷ []) lines)) e ∙ spot-none true at line)
+  not_there e = sym (ap (λ m. ends (perhaps m f)) e ∙ ap Ok (spot-none at line))
 
   there-by : (lines : List (List ℕ))
-      → ◌≡◌ {A = Spot} record { good = true; at = (spot_from at line (walk (one f ∷ []) lines)).at; line = (spot_from at line (walk (one f ∷ []) lines)).line }
-      (spot_from at line (walk (perhaps true f ∷ []) lines))
+      → Ok (result_unwrap_or (spot_from at line (walk (one f ∷ []) lines)) (record { at = at; line = line })) ≡ spot_from at line (walk (perhaps true f ∷ []) lines)
   unfolding walk spot_from after flatten first_of past_first
-  there-by [] = refl
+  there-by [] = sym (ap Ok (spot-none at line))
   there-by (l ∷ lines) = by (is_of f l)
     where
       by : (t : Bool)
-          → ◌≡◌ {A = Spot}
-          record {
-            good = true;
-            at = (spot_from at line (elim t as (λ _. Walked) [ true ↦ after (l ∷ []) (Through [] lines) | false ↦ Stopped [] ])).at;
-            line = (spot_from at line (elim t as (λ _. Walked) [ true ↦ after (l ∷ []) (Through [] lines) | false ↦ Stopped [] ])).line;
-          }
-          (spot_from at line
+          → Ok (result_unwrap_or (spot_from at line (elim t as (λ _. Walked) [ true ↦ after (l ∷ []) (Through [] lines) | false ↦ Stopped [] ])) (record { at = at; line = line }))
+          ≡ spot_from at line
           (after (elim t as (λ _. List (List ℕ)) [ true ↦ l ∷ [] | false ↦ [] ])
-          (Through [] (elim t as (λ _. List (List ℕ)) [ true ↦ lines | false ↦ l ∷ lines ]))))
+          (Through [] (elim t as (λ _. List (List ℕ)) [ true ↦ lines | false ↦ l ∷ lines ])))
       by true = refl
-      by false = refl
+      by false = sym (ap Ok (spot-none at line))
 
-  pub if-there : {may : Bool} (lines : List (List ℕ)) → may ≡ true → {p : Spot} → p ≡ spot_from at line (walk (one f ∷ []) lines)
-      → record { good = true; at = p.at; line = p.line } ≡ spot_from at line (walk (perhaps may f ∷ []) lines)
-  if-there lines e p =
-      ap (λ q. record { good = true; at = q.at; line = q.line }) p
-      ∙ there-by lines
-      ∙ ap (λ m. spot_from at line (walk (perhaps m f ∷ []) lines)) (sym e)
+  pub if-there : {may : Bool} → may ≡ true → {r : Result Spot ℕ} → r ≡ ends (one f) → Ok (result_unwrap_or r (record { at = at; line = line })) ≡ ends (perhaps may f)
+  if-there e p =
+      ap (λ q. Ok (result_unwrap_or q (record { at = at; line = line }))) p
+      ∙ there-by (lines_in (drop at text))
+      ∙ ap (λ m. ends (perhaps m f)) (sym e)
+
+-- ---- any number of lines: none is left, or one and then the others
+
+module _ (f : Form) (at line : ℕ) where
+  any-spot : (lines : List (List ℕ)) → Ok (spot at line (leading f lines)) ≡ spot_from at line (walk (any f ∷ []) lines)
+  unfolding walk spot_from after flatten
+  any-spot lines = ap (λ ls. Ok (spot at line ls)) (sym (append-nil (leading f lines)))
+
+  none-leads : (lines : List (List ℕ)) (n : ℕ) → Err n ≡ spot_from at line (walk (one f ∷ []) lines) → leading f lines ≡ []
+  unfolding walk spot_from after leading
+  none-leads [] n e = refl
+  none-leads (l ∷ lines) n e = by (is_of f l) e
+    where
+      by : (t : Bool) → Err n ≡ spot_from at line (elim t as (λ _. Walked) [ true ↦ after (l ∷ []) (Through [] lines) | false ↦ Stopped [] ])
+          → elim t as (λ _. List (List ℕ)) [ true ↦ l ∷ leading f lines | false ↦ [] ] ≡ []
+      by true e = cc
+      by false e = refl
+
+  record OneLeads (lines : List (List ℕ)) (to : Spot) : Type 0 where
+    first : List ℕ
+    rest : List (List ℕ)
+    parted : lines ≡ first ∷ rest
+    leads : leading f lines ≡ first ∷ leading f rest
+    there : spot at line (first ∷ []) ≡ to
+
+  one-leads : (lines : List (List ℕ)) (to : Spot) → Ok to ≡ spot_from at line (walk (one f ∷ []) lines) → OneLeads lines to
+  unfolding walk spot_from after leading flatten
+  one-leads [] to e = cc
+  one-leads (l ∷ lines) to e = by (is_of f l) refl e
+    where
+      by : (t : Bool) → is_of f l ≡ t → Ok to ≡ spot_from at line (elim t as (λ _. Walked) [ true ↦ after (l ∷ []) (Through [] lines) | false ↦ Stopped [] ]) → OneLeads (l ∷ lines) to
+      by true t e =
+          record {
+            first = l;
+            rest = lines;
+            parted = refl;
+            leads = ap (λ b. elim b as (λ _. List (List ℕ)) [ true ↦ l ∷ leading f lines | false ↦ [] ]) t;
+            there = cc;
+          }
+      by false t e = cc
+
+module _ (f : Form) (text : List ℕ) (at line : ℕ) where
+  pub any-ends : (n : ℕ) → Err n ≡ ends f text at line (one f) → Ok (record { at = at; line = line }) ≡ ends f text at line (any f)
+  any-ends n e =
+      let here = lines_in (drop at text) in
+      ap Ok (sym (ap (spot at line) (none-leads f at line here n e) ∙ spot-none at line)) ∙ any-spot f at line here
+
+  pub any-next : (to : Spot) → Ok to ≡ ends f text at line (one f) → ends f text to.at to.line (any f) ≡ ends f text at line (any f)
+  any-next to e =
+      let here = lines_in (drop at text) in
+      let o = one-leads f at line here to e in
+      let behind : lines_in (drop to.at text) ≡ o.rest =
+      ap (λ p. lines_in (drop p.at text)) (sym o.there)
+      ∙ ap lines_in (sym (drop-drop (bytes_of (o.first ∷ [])) at text))
+      ∙ lines-drop (o.first ∷ []) (drop at text) o.rest o.parted in
+      ap (λ ls. spot_from to.at to.line (walk (any f ∷ []) ls)) behind
+      ∙ sym (any-spot f to.at to.line o.rest)
+      ∙ ap (λ p. Ok (spot p.at p.line (leading f o.rest))) (sym o.there)
+      ∙ ap Ok (sym (spot-append at line (o.first ∷ []) (leading f o.rest)))
+      ∙ ap (λ ls. Ok (spot at line ls)) (sym o.leads)
+      ∙ any-spot f at line here

@@ -1,5 +1,5 @@
 -- A text cut behind every newline. Definitions only.
-use Rattle.std.specs.Prelude.{ℕ, ◌+◌, cond, List, [], ◌∷◌, eqb, length, drop}
+use Rattle.std.specs.Prelude.{ℕ, ◌+◌, ◌==◌, cond, List, [], ◌∷◌, eqb, length, drop, Option, position}
 
 abbrev pub newline : ℕ
 newline = 10
@@ -22,3 +22,7 @@ first_line (b ∷ text) = cond (eqb b newline) (b ∷ []) (b ∷ first_line text
 -- the place past the line at a place
 unfoldable pub past_line : List ℕ → ℕ → ℕ
 past_line text at = at + length (first_line (drop at text))
+
+-- the place of the first newline
+abbrev pub newline_in : List ℕ → Option ℕ
+newline_in text = position (λ b. b == newline) text

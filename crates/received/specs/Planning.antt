@@ -1,5 +1,5 @@
 -- For the way a text is mended: a data line at a place, what is known of all of them, and the plan of what is written. Definitions only.
-use Rattle.std.specs.Prelude.{ℕ, ◌+◌, ◌-◌, ◌≤◌, ◌<◌, ◌≡◌, Bool, cond, leb, length, take, drop}
+use Rattle.std.specs.Prelude.{ℕ, ◌+◌, ◌-◌, ◌≤◌, ◌<◌, ◌≡◌, Bool, true, cond, leb, length, take, drop}
 use mathlib.Core.List.{List, [], ◌∷◌, ◌++◌, flatten, map}
 use Rattle.integers.specs.Tests.{◌and◌}
 use Rattle.calendar.specs.Calendar.{most_seconds}
@@ -24,7 +24,7 @@ pub record Looked (text : List ℕ) (at earliest : ℕ) (r : Step) : Type 0 wher
   pub more : at < r.end
   pub within : r.end ≤ length text
   pub taken : r.good ≡ accepts earliest (datum_in (line_from text at))
-  pub time : r.seconds ≡ (datum_in (line_from text at)).seconds
+  pub time : r.good ≡ true → r.seconds ≡ (datum_in (line_from text at)).seconds
   pub early : r.seconds ≤ most_seconds
 
 unfoldable pub surveyed_by : List (List ℕ) → List Change → Surveyed

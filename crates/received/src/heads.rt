@@ -1,152 +1,119 @@
 // The lines before the data, slot by slot.
-ghost use Rattle.std.specs.Prelude.{◌≡◌, true, false, [], ◌∷◌, ◌≤◌, ◌<◌, ◌+◌, length, take, drop};
+ghost use Rattle.std.specs.Prelude.{◌≡◌, true, [], ◌∷◌, ◌≤◌, ◌<◌, ◌+◌, length, take, drop, IfOk};
 ghost use Rattle.received.specs.Lines.{lines_in};
 ghost use Rattle.received.specs.Slots.{one, perhaps, any, form_of, walk};
 ghost use Rattle.received.specs.Profile.{has_more, slots};
-ghost use Rattle.received.specs.Reading.{slot_at, front_at};
+ghost use Rattle.received.specs.Reading.{slot_at};
 ghost use Rattle.received.specs.Answer.{place_at};
-ghost use Rattle.received.specs.Finding.{spot_from, Inside, walk_over, is_through, groups_of, is_one};
+ghost use Rattle.received.specs.Finding.{begin_at, spot_from, Inside, walk_over, is_through, groups_of, is_one};
 
 use crate::Place;
-use crate::forms::{is_any, is_perhaps, passes};
+use crate::forms::{Kind, front_of, kind_of, passes};
 use crate::lines::past_line;
 use message::Edition;
 
-// Whether every line was as it has to be; where the next one stands, and its number.
+// A place in a text, and the number of the line there.
 #[derive(Clone, Copy)]
 pub struct Spot {
-    pub good: bool,
     pub at: usize,
     pub line: usize,
 }
 
-fn pass_one(text: &[u8], edition: Edition, k: usize, at: usize, line: usize) -> Spot
-    requires { Inside text.now at line }
-    ensures { (result ≡ spot_from at line (walk (one (form_of (slot_at edition k)) ∷ []) (lines_in (drop at text.now)))) × Inside text.now result.at result.line }
+// The spot behind one line of slot k, or the number of the line that is none.
+fn pass_one(text: &[u8], edition: Edition, k: usize, from: Spot) -> Result<Spot, usize>
+    requires { Inside text.now from }
+    ensures ends { result ≡ spot_from from.at from.line (walk (one (form_of (slot_at edition k)) ∷ []) (lines_in (drop from.at text.now))) }
+    ensures inside { IfOk result (λ to. Inside text.now to × (from.at < to.at)) }
 {
-    if text.len() <= at {
-        return Spot {
-            good: false,
-            at,
-            line,
-        };
+    if text.len() <= from.at {
+        return Err(from.line);
     }
-    let end = past_line(text, at);
-    if !passes(edition, k, &text[at..end]) {
-        return Spot {
-            good: false,
-            at,
-            line,
-        };
+    let end = past_line(text, from.at);
+    if !passes(edition, k, &text[from.at..end]) {
+        return Err(from.line);
     }
-    Spot {
-        good: true,
+    Ok(Spot {
         at: end,
-        line: line + 1,
-    }
+        line: from.line + 1,
+    })
 }
 
-fn pass_any(text: &[u8], edition: Edition, k: usize, from: usize, first: usize) -> Spot
-    requires { Inside text.now from first }
-    ensures { (result ≡ spot_from from first (walk (any (form_of (slot_at edition k)) ∷ []) (lines_in (drop from text.now)))) × Inside text.now result.at result.line }
+fn pass_any(text: &[u8], edition: Edition, k: usize, from: Spot) -> Spot
+    requires { Inside text.now from }
+    ensures ends { Ok result ≡ spot_from from.at from.line (walk (any (form_of (slot_at edition k)) ∷ []) (lines_in (drop from.at text.now))) }
+    ensures inside { Inside text.now result }
 {
-    let mut at = from;
-    let mut line = first;
-    while at < text.len() {
-        let end = past_line(text, at);
-        if !passes(edition, k, &text[at..end]) {
-            return Spot {
-                good: true,
-                at,
-                line,
-            };
-        }
-        at = end;
-        line += 1;
+    let mut spot = from;
+    while let Ok(next) = pass_one(text, edition, k, spot) {
+        spot = next;
     }
-    Spot {
-        good: true,
-        at,
-        line,
-    }
+    spot
 }
 
 // An edition with further keywords.
 fn has_more(edition: Edition) -> bool
     ensures { result ≡ has_more edition }
 {
-    match edition {
-        Edition::Two => false,
-        Edition::Three => true,
-    }
+    matches!(edition, Edition::Three)
 }
 
-fn pass_perhaps(text: &[u8], edition: Edition, k: usize, at: usize, line: usize) -> Spot
-    requires { Inside text.now at line }
-    ensures { (result ≡ spot_from at line (walk (perhaps (has_more edition) (form_of (slot_at edition k)) ∷ []) (lines_in (drop at text.now)))) × Inside text.now result.at result.line }
+fn pass_perhaps(text: &[u8], edition: Edition, k: usize, from: Spot) -> Spot
+    requires { Inside text.now from }
+    ensures ends { Ok result ≡ spot_from from.at from.line (walk (perhaps (has_more edition) (form_of (slot_at edition k)) ∷ []) (lines_in (drop from.at text.now))) }
+    ensures inside { Inside text.now result }
 {
-    if !has_more(edition) {
-        return Spot {
-            good: true,
-            at,
-            line,
-        };
-    }
-    let p = pass_one(text, edition, k, at, line);
-    Spot {
-        good: true,
-        at: p.at,
-        line: p.line,
+    if has_more(edition) {
+        pass_one(text, edition, k, from).unwrap_or(from)
+    } else {
+        from
     }
 }
 
-fn pass_slot(text: &[u8], edition: Edition, k: usize, at: usize, line: usize) -> Spot
+fn pass_slot(text: &[u8], edition: Edition, k: usize, from: Spot) -> Result<Spot, usize>
     requires k_bound { k < 17 }
-    requires inside { Inside text.now at line }
-    ensures { (result ≡ spot_from at line (walk (slot_at edition k ∷ []) (lines_in (drop at text.now)))) × Inside text.now result.at result.line }
+    requires inside { Inside text.now from }
+    ensures ends { result ≡ spot_from from.at from.line (walk (slot_at edition k ∷ []) (lines_in (drop from.at text.now))) }
+    ensures inside { IfOk result (Inside text.now) }
 {
-    if is_any(k) {
-        return pass_any(text, edition, k, at, line);
+    match kind_of(k) {
+        Kind::One => pass_one(text, edition, k, from),
+        Kind::Perhaps => Ok(pass_perhaps(text, edition, k, from)),
+        Kind::Any => Ok(pass_any(text, edition, k, from)),
     }
-    if is_perhaps(k) {
-        return pass_perhaps(text, edition, k, at, line);
-    }
-    pass_one(text, edition, k, at, line)
 }
 
-// The lines of the first k slots.
-pub(crate) fn reach(text: &[u8], edition: Edition, k: usize) -> Spot
+// The spot behind the lines of the first k slots, or the number of the line at which they stop.
+pub(crate) fn reach(text: &[u8], edition: Edition, k: usize) -> Result<Spot, usize>
     requires { k ≤ 17 }
-    ensures { (result ≡ spot_from 0 1 (walk (take k (slots edition)) (lines_in text.now))) × Inside text.now result.at result.line }
+    ensures ends { result ≡ spot_from 0 1 (walk (take k (slots edition)) (lines_in text.now)) }
+    ensures inside { IfOk result (Inside text.now) }
 {
-    let mut at = 0;
-    let mut line = 1;
-    let mut j = 0;
-    while j < k {
-        let p = pass_slot(text, edition, j, at, line);
-        if !p.good {
-            return p;
-        }
-        at = p.at;
-        line = p.line;
-        j += 1;
+    let mut spot = Spot { at: 0, line: 1 };
+    for j in 0..k {
+        spot = pass_slot(text, edition, j, spot)?;
     }
-    Spot {
-        good: true,
-        at,
-        line,
-    }
+    Ok(spot)
 }
 
-// Where the value of slot k stands, which is behind a front of so many characters.
-pub(crate) fn place_of(text: &[u8], edition: Edition, k: usize, front: usize) -> Place
-    requires k_bound { (k < 17) × (is_one (slot_at edition k) ≡ true) × (front ≡ length (front_at k)) }
-    requires text_value { is_through (walk_over edition text.now) ≡ true }
+// Where slot k begins in a text that has a line for each slot.
+pub(crate) fn begin_of(text: &[u8], edition: Edition, k: usize) -> Spot
+    requires k_bound { k ≤ 17 }
+    requires through { is_through (walk_over edition text.now) ≡ true }
+    ensures begins { result ≡ begin_at (groups_of (walk_over edition text.now)) k }
+    ensures inside { Inside text.now result }
+{
+    reach(text, edition, k).unwrap()
+}
+
+// Where the value of slot k stands.
+pub(crate) fn place_of(text: &[u8], edition: Edition, k: usize) -> Place
+    requires k_bound { (k < 17) × (is_one (slot_at edition k) ≡ true) }
+    requires through { is_through (walk_over edition text.now) ≡ true }
     ensures { (result ≡ place_at (groups_of (walk_over edition text.now)) k) × (result.start + result.length ≤ length text.now) }
 {
-    let here = reach(text, edition, k);
-    let next = reach(text, edition, k + 1);
-    let start = here.at + front;
+    let here = begin_of(text, edition, k);
+    let next = begin_of(text, edition, k + 1);
+    let start = here.at + front_of(k).len();
     Place {
         start,
         length: next.at - 1 - start,

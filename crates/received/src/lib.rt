@@ -24,6 +24,7 @@ pub struct Place {
 
 // The number that refuses, or 0. With 15 the line at which reading stops; with 0 how many points there are, and where the names and the time of
 // creation stand.
+// One record of numbers: the contracts of `read_message` and `read_either` say it whole (`answer_to`).
 #[derive(Clone, Copy)]
 pub struct Received {
     pub number: u8,
@@ -38,6 +39,7 @@ pub struct Received {
 }
 
 // The number that refuses, or 0, and how many bytes and how many changes were written.
+// One record of numbers: the contract of `mend_message` says it whole (`mended_to`).
 #[derive(Clone, Copy)]
 pub struct Mended {
     pub number: u8,

@@ -1,17 +1,23 @@
 // Lines of a text by their places.
-ghost use Rattle.std.specs.Prelude.{◌≡◌};
-ghost use Rattle.received.specs.Lines.{past_line};
+ghost use Rattle.std.specs.Prelude.{◌≡◌, ◌<◌, ◌≤◌, length};
+ghost use Rattle.received.specs.Lines.{past_line, newline_in};
+
+// The place of the first newline.
+pub(crate) fn newline_in(text: &[u8]) -> Option<usize>
+    ensures { result ≡ newline_in text.now }
+{
+    text.iter().position(|b| *b == b'\n')
+}
 
 // The place past the line at a place.
 pub(crate) fn past_line(text: &[u8], at: usize) -> usize
-    ensures { result ≡ past_line text.now at }
+    requires { at ≤ length text.now }
+    ensures value { result ≡ past_line text.now at }
+    ensures within { result ≤ length text.now }
+    ensures more { at < length text.now → at < result }
 {
-    let mut i = at;
-    while i < text.len() {
-        if text[i] == b'\n' {
-            return i + 1;
-        }
-        i += 1;
+    match newline_in(&text[at..]) {
+        Some(i) => at + i + 1,
+        None => text.len(),
     }
-    i
 }

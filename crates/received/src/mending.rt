@@ -2,6 +2,7 @@
 ghost use Rattle.std.specs.Prelude.{◌≡◌, ◌≤◌, ◌+◌, length, drop};
 ghost use mathlib.Core.List.{[], ◌∷◌, flatten};
 ghost use Rattle.text.specs.Places.{Wrote};
+ghost use Rattle.text.specs.Writes.{Fits, Writes};
 ghost use Rattle.received.specs.Lines.{lines_in};
 ghost use Rattle.received.specs.Versions.{edition_in};
 ghost use Rattle.received.specs.Data.{kept_of};
@@ -14,51 +15,45 @@ use crate::planning::{Plan, has_rooms, plan_of};
 use crate::surveying::look;
 use crate::versions::{edition_of, is_other};
 use message::{Edition, put_time_entry};
-use text::put_word;
+use text::Writer;
 
 // The lines before the data, with two times.
-fn put_head(text: &[u8], p: Plan, out: &mut [u8]) -> usize
+fn put_head(w: &mut Writer<'_>, text: &[u8], p: Plan)
     requires planned { Planned text.now p }
-    requires p_in_bounds { length (flatten (head_of text.now p)) ≤ length out.old }
-    ensures { Wrote out.old 0 (flatten (head_of text.now p)) out.new result }
+    requires p_in_bounds { Fits w.old (flatten (head_of text.now p)) }
+    ensures { Writes w.old (flatten (head_of text.now p)) w.new }
 {
-    let start = p.start;
-    let stop = p.stop;
-    let from = p.from;
-    let a = put_word(out, 0, &text[..start]);
-    let b = put_time_entry(out, a, b"START_TIME", p.first);
-    let c = put_time_entry(out, b, b"STOP_TIME", p.last);
-    put_word(out, c, &text[stop..from])
+    w.put_word(&text[..p.start]);
+    put_time_entry(w, b"START_TIME", p.first);
+    put_time_entry(w, b"STOP_TIME", p.last);
+    w.put_word(&text[p.stop..p.from]);
 }
 
 // The data lines from a place on that are kept.
-fn put_kept(text: &[u8], from: usize, out: &mut [u8], at: usize) -> usize
+fn put_kept(w: &mut Writer<'_>, text: &[u8], from: usize)
     requires from_in_bounds { from ≤ length text.now }
-    requires text_in_bounds { at + length (flatten (kept_of 0 (lines_in (drop from text.now)))) ≤ length out.old }
-    ensures { Wrote out.old at (flatten (kept_of 0 (lines_in (drop from text.now)))) out.new result }
+    requires text_in_bounds { Fits w.old (flatten (kept_of 0 (lines_in (drop from text.now)))) }
+    ensures { Writes w.old (flatten (kept_of 0 (lines_in (drop from text.now)))) w.new }
 {
     let mut i = from;
-    let mut end = at;
     let mut earliest = 0;
     while i < text.len() {
         let l = look(text, i, earliest);
-        let next = l.end;
         if l.good {
-            end = put_word(out, end, &text[i..next]);
+            w.put_word(&text[i..l.end]);
             earliest = l.seconds + 1;
         }
-        i = next;
+        i = l.end;
     }
-    end
 }
 
-fn put_text(text: &[u8], p: Plan, out: &mut [u8]) -> usize
+fn put_text(w: &mut Writer<'_>, text: &[u8], p: Plan)
     requires planned { Planned text.now p }
-    requires p_in_bounds { length (planned_text text.now p) ≤ length out.old }
-    ensures { Wrote out.old 0 (planned_text text.now p) out.new result }
+    requires p_in_bounds { Fits w.old (planned_text text.now p) }
+    ensures { Writes w.old (planned_text text.now p) w.new }
 {
-    let end = put_head(text, p, out);
-    put_kept(text, p.from, out, end)
+    put_head(w, text, p);
+    put_kept(w, text, p.from);
 }
 
 fn put_change(changes: &mut [u64], at: usize, line: usize, what: u64) -> usize
@@ -133,14 +128,15 @@ fn mend_as(edition: Edition, text: &[u8], out: &mut [u8], changes: &mut [u64]) -
     if is_other(text, edition) {
         return refused(17);
     }
-    let p = plan_of(text, edition);
-    if !p.good {
+    let Some(p) = plan_of(text, edition) else {
         return refused(16);
-    }
+    };
     if !has_rooms(text, p, out.len(), changes.len()) {
         return refused(12);
     }
-    let length = put_text(text, p, out);
+    let mut w = Writer::new(out);
+    put_text(&mut w, text, p);
+    let length = w.place();
     let words = put_list(text, p, changes);
     Mended {
         number: 0,

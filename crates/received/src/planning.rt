@@ -1,18 +1,17 @@
 // What there is to write when a text is mended.
-ghost use Rattle.std.specs.Prelude.{◌≡◌, true, false, cond};
+ghost use Rattle.std.specs.Prelude.{◌≡◌, cond, MatchOption};
 ghost use Rattle.received.specs.Mending.{Cannot, mend_of};
 ghost use Rattle.received.specs.Planning.{Planned, PlanOf, room_in};
 
-use crate::heads::reach;
+use crate::heads::{begin_of, reach};
 use crate::judging::says_time;
 use crate::surveying::survey;
 use message::Edition;
 
-// Whether it can be mended; the places of START_TIME, META_STOP and the data, the numbers of START_TIME and of the first data line,
+// The places of START_TIME, META_STOP and the data, the numbers of START_TIME and of the first data line,
 // the times of the first and the last line kept and whether they are said, and how many bytes are kept and how many lines dropped.
 #[derive(Clone, Copy)]
 pub struct Plan {
-    pub good: bool,
     pub start: usize,
     pub stop: usize,
     pub from: usize,
@@ -26,42 +25,23 @@ pub struct Plan {
     pub dropped: usize,
 }
 
-fn no_plan() -> Plan
-    ensures { result.good ≡ false }
+// None where it cannot be mended.
+#[tactic(auto, using(crate::proofs::Headed::goes_through))]
+pub(crate) fn plan_of(text: &[u8], edition: Edition) -> Option<Plan>
+    ensures { MatchOption result (mend_of edition text.now ≡ Cannot) (PlanOf edition text.now) }
 {
-    Plan {
-        good: false,
-        start: 0,
-        stop: 0,
-        from: 0,
-        line: 0,
-        number: 0,
-        first: 0,
-        last: 0,
-        starts: false,
-        stops: false,
-        bytes: 0,
-        dropped: 0,
-    }
-}
-
-pub(crate) fn plan_of(text: &[u8], edition: Edition) -> Plan
-    ensures { (result.good ≡ false → mend_of edition text.now ≡ Cannot) × (result.good ≡ true → PlanOf edition text.now result) }
-{
-    let head = reach(text, edition, 17);
-    if !head.good {
-        return no_plan();
-    }
+    let Ok(head) = reach(text, edition, 17) else {
+        return None;
+    };
     let data = survey(text, head.at);
     if data.kept == 0 {
-        return no_plan();
+        return None;
     }
-    let start = reach(text, edition, 13);
-    let stop = reach(text, edition, 15);
-    let starts = says_time(text, edition, 13, 13, data.first);
-    let stops = says_time(text, edition, 14, 12, data.last);
-    Plan {
-        good: true,
+    let start = begin_of(text, edition, 13);
+    let stop = begin_of(text, edition, 15);
+    let starts = says_time(text, edition, 13, data.first);
+    let stops = says_time(text, edition, 14, data.last);
+    Some(Plan {
         start: start.at,
         stop: stop.at,
         from: head.at,
@@ -73,7 +53,7 @@ pub(crate) fn plan_of(text: &[u8], edition: Edition) -> Plan
         stops,
         bytes: data.bytes,
         dropped: data.dropped,
-    }
+    })
 }
 
 fn one_unless(same: bool) -> usize
@@ -86,12 +66,6 @@ pub(crate) fn has_rooms(text: &[u8], p: Plan, out: usize, changes: usize) -> boo
     requires { Planned text.now p }
     ensures { result ≡ room_in text.now p out changes }
 {
-    if out < 65 {
-        return false;
-    }
-    if out - 65 < p.start + (p.from - p.stop) + p.bytes {
-        return false;
-    }
     let count = p.dropped + one_unless(p.starts) + one_unless(p.stops);
-    count <= changes / 2
+    65 <= out && p.start + (p.from - p.stop) + p.bytes <= out - 65 && count <= changes / 2
 }

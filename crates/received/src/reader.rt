@@ -3,7 +3,7 @@ ghost use Rattle.std.specs.Prelude.{◌≡◌, true, ◌++◌, map, ◌≤◌, �
 ghost use Rattle.std.proofs.Math.Seq.{paste};
 ghost use Rattle.received.specs.Lines.{lines_in};
 ghost use Rattle.received.specs.Versions.{edition_in};
-ghost use Rattle.received.specs.Data.{point_in};
+ghost use Rattle.received.specs.Data.{point_in, AllGood};
 ghost use Rattle.received.specs.Finding.{walk_over, is_through, groups_of};
 ghost use Rattle.received.specs.Answer.{has_room, seconds_of, values_of, refused_by, received, answer_to, epochs_after, values_after};
 
@@ -19,40 +19,35 @@ fn put_six(room: &mut [i64], at: usize, values: [i64; 6])
     requires { at + 6 ≤ length room.old }
     ensures { room.new ≡ paste room.old at values 6 }
 {
-    let mut k: usize = 0;
-    while k < 6 {
-        room[at + k] = values[k];
-        k += 1;
-    }
+    room[at..at + 6].copy_from_slice(&values);
 }
 
-// The points of all lines from a place on.
+// The points of all lines from a place on, each of which can be read.
 fn keep(text: &[u8], from: usize, epochs: &mut [u64], values: &mut [i64])
     requires from_in_bounds { from ≤ length text.now }
+    requires all_good { AllGood (lines_in (drop from text.now)) }
     requires text_in_bounds { (length (lines_in (drop from text.now)) ≤ length epochs.old) × (6 * length (lines_in (drop from text.now)) ≤ length values.old) }
     ensures epochs_after { epochs.new ≡ seconds_of (map point_in (lines_in (drop from text.now))) ++ drop (length (lines_in (drop from text.now))) epochs.old }
     ensures values_after { values.new ≡ values_of (map point_in (lines_in (drop from text.now))) ++ drop (6 * length (lines_in (drop from text.now))) values.old }
 {
     let mut at = from;
+    // By number, for it ends with the text, and the rooms may go on.
     let mut i = 0;
     while at < text.len() {
         let end = past_line(text, at);
-        let d = read_datum(&text[at..end]);
+        let d = read_datum(&text[at..end]).unwrap();
         epochs[i] = d.seconds;
-        let six = d.values;
-        put_six(values, 6 * i, six);
+        put_six(values, 6 * i, d.values);
         i += 1;
         at = end;
     }
 }
 
+#[tactic(auto, unfolding(crate::specs::Answer::has_room))]
 fn has_room(count: usize, epochs: usize, values: usize) -> bool
     ensures { result ≡ has_room count epochs values }
 {
-    if epochs < count {
-        return false;
-    }
-    count <= values / 6
+    count <= epochs && count <= values / 6
 }
 
 fn refused(number: u8, line: usize) -> Received
@@ -80,22 +75,16 @@ fn found(text: &[u8], edition: Edition, count: usize) -> Received
     requires { is_through (walk_over edition text.now) ≡ true }
     ensures { result ≡ received (groups_of (walk_over edition text.now)) count }
 {
-    let created = place_of(text, edition, 3, 16);
-    let originator = place_of(text, edition, 4, 13);
-    let object = place_of(text, edition, 8, 14);
-    let id = place_of(text, edition, 9, 12);
-    let center = place_of(text, edition, 10, 14);
-    let frame = place_of(text, edition, 11, 12);
     Received {
         number: 0,
         line: 0,
         count,
-        created,
-        originator,
-        object,
-        id,
-        center,
-        frame,
+        created: place_of(text, edition, 3),
+        originator: place_of(text, edition, 4),
+        object: place_of(text, edition, 8),
+        id: place_of(text, edition, 9),
+        center: place_of(text, edition, 10),
+        frame: place_of(text, edition, 11),
     }
 }
 
@@ -107,10 +96,10 @@ fn read_as(edition: Edition, text: &[u8], epochs: &mut [u64], values: &mut [i64]
     if is_other(text, edition) {
         return refused(17, 0);
     }
-    let judged = judge(text, edition);
-    if judged.line != 0 {
-        return refused(15, judged.line);
-    }
+    let judged = match judge(text, edition) {
+        Ok(judged) => judged,
+        Err(line) => return refused(15, line),
+    };
     if !has_room(judged.count, epochs.len(), values.len()) {
         return refused(12, 0);
     }

@@ -4,7 +4,7 @@ ghost use Rattle.calendar.specs.Calendar.{most_seconds};
 ghost use Rattle.received.specs.Lines.{lines_in};
 ghost use Rattle.received.specs.Planning.{Looked, survey_of};
 
-use crate::data::{is_accepted, read_datum};
+use crate::data::read_after;
 use crate::lines::past_line;
 
 // The place past a data line; whether it is kept, and its time.
@@ -30,10 +30,18 @@ pub(crate) fn look(text: &[u8], at: usize, earliest: u64) -> Step
     ensures { Looked text.now at earliest result }
 {
     let end = past_line(text, at);
-    let d = read_datum(&text[at..end]);
-    let good = is_accepted(earliest, d);
-    let seconds = d.seconds;
-    Step { end, good, seconds }
+    match read_after(&text[at..end], earliest) {
+        Some(d) => Step {
+            end,
+            good: true,
+            seconds: d.seconds,
+        },
+        None => Step {
+            end,
+            good: false,
+            seconds: 0,
+        },
+    }
 }
 
 // The data lines from a place on.

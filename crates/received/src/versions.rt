@@ -1,27 +1,26 @@
 // The version that a text names, and the edition that it is read by.
-ghost use Rattle.std.specs.Prelude.{◌≡◌, ◌+◌, length, drop};
+ghost use Rattle.std.specs.Prelude.{◌≡◌};
 ghost use Rattle.calendar.specs.Text.{same_text};
 ghost use Rattle.message.specs.Editions.{version_of};
 ghost use Rattle.received.specs.Versions.{up_to_newline, is_other, edition_in};
 
+use crate::forms::front_of;
+use crate::lines::newline_in;
 use calendar::same;
 use message::Edition;
 
-// The place of the first newline from a place on, or of the end.
-fn line_end(text: &[u8], at: usize) -> usize
-    ensures { result ≡ at + length (up_to_newline (drop at text.now)) }
+// What stands before the first newline, or all where there is none.
+fn up_to_newline(text: &[u8]) -> &[u8]
+    ensures { result.now ≡ up_to_newline text.now }
 {
-    let mut i = at;
-    while i < text.len() {
-        if text[i] == b'\n' {
-            return i;
-        }
-        i += 1;
+    match newline_in(text) {
+        Some(i) => &text[..i],
+        None => text,
     }
-    i
 }
 
-fn is_version(value: &[u8], edition: Edition) -> bool
+#[tactic(auto, unfolding(text::specs::Numbers::ascii))]
+pub(crate) fn is_version(value: &[u8], edition: Edition) -> bool
     ensures { result ≡ same_text value.now (version_of edition) }
 {
     match edition {
@@ -34,17 +33,14 @@ fn is_version(value: &[u8], edition: Edition) -> bool
 pub(crate) fn is_other(text: &[u8], edition: Edition) -> bool
     ensures { result ≡ is_other edition text.now }
 {
-    if text.len() < 17 {
-        return false;
+    match text.strip_prefix(front_of(0)) {
+        Some(named) => !is_version(up_to_newline(named), edition),
+        None => false,
     }
-    if !same(&text[..17], b"CCSDS_OEM_VERS = ") {
-        return false;
-    }
-    let end = line_end(text, 17);
-    !is_version(&text[17..end], edition)
 }
 
 // The edition that the version line chooses.
+#[tactic(auto, unfolding(crate::specs::Versions::edition_in))]
 pub(crate) fn edition_of(text: &[u8]) -> Edition
     ensures { result ≡ edition_in text.now }
 {

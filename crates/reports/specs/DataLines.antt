@@ -8,19 +8,15 @@ use mathlib.Core.List.{List, [], ◌∷◌, ◌++◌, flatten}
 use Rattle.std.proofs.Math.ListN.{length-append}
 use Rattle.integers.specs.Tests.{joined}
 use Rattle.text.specs.Numbers.{ascii, digit, digits, decimal, last_digits}
-use Rattle.text.specs.declared.Signed.{Signed}
-use Rattle.text.specs.declared.Signed.TheVariants.{Number, Nothing}
-use Rattle.calendar.specs.declared.Reading.{Reading}
-use Rattle.calendar.specs.declared.Reading.TheVariants as R
+use Rattle.std.specs.Prelude.{Option, Some, None, is_some}
 use Rattle.calendar.specs.Text.{time_in}
 use Rattle.calendar.proofs.Back.{same_true, text-long, time-only}
 use Rattle.decimal.specs.Text.{fixed, fixed_text, few_digits}
 use Rattle.decimal.specs.Reading.{fixed_at}
 use Rattle.decimal.proofs.Digits.{length-last_digits}
 use Rattle.decimal.proofs.Back.{fixed-only}
-use Rattle.message.specs.Refusals.{is_some, is_time}
-use Rattle.received.specs.declared.data.Field.{Field}
-use Rattle.received.specs.Data.{Point, decimals_of, no_field, field_by, field_at, field_start, datum_in, point_in, accepts, points_in}
+use Rattle.message.specs.Refusals.{is_time}
+use Rattle.received.specs.Data.{Point, decimals_of, field_by, field_at, field_start, datum_in, point_in, accepts, points_in, value_of, end_of}
 
 -- ---- a number with decimals has a digit, a point and the decimals
 
@@ -49,30 +45,30 @@ text-least places (negsuc n) = omega (arith, fixed-long places (suc n))
 
 -- ---- where a field ends: nowhere, or so far behind its start
 
-Ends : ℕ → ℕ → Field → Type 0
-Ends places at f = (f.end ≡ 0 → ⊥) → at + places + 3 ≤ f.end
+Ends : ℕ → ℕ → Option (ℤ × ℕ) → Type 0
+Ends places at f = (end_of f ≡ 0 → ⊥) → at + places + 3 ≤ (end_of f)
 
-no_end : (places at : ℕ) → Ends places at no_field
+no_end : (places at : ℕ) → Ends places at None
 unfolding Ends
 no_end places at h = absurd (h refl)
 
-number-end : (places : ℕ) (line : List ℕ) (at : ℕ) (n : ℤ) (end : ℕ) → fixed_at places line (at + 1) ≡ Number n end → (t : Bool)
-    → Ends places at (cond t (record { value = n; end = end }) no_field)
+number-end : (places : ℕ) (line : List ℕ) (at : ℕ) (n : ℤ) (end : ℕ) → fixed_at places line (at + 1) ≡ Some (n, end) → (t : Bool)
+    → Ends places at (cond t (Some (n, end)) None)
 unfolding Ends
 number-end places line at n end e true h = omega (arith, (fixed-only places line (at + 1) n end e).0.ends, text-least places n)
 number-end places line at n end e false h = absurd (h refl)
 
-signed-end : (places : ℕ) (line : List ℕ) (at : ℕ) (s : Signed) → fixed_at places line (at + 1) ≡ s → Ends places at (field_by places s)
+signed-end : (places : ℕ) (line : List ℕ) (at : ℕ) (s : Option (ℤ × ℕ)) → fixed_at places line (at + 1) ≡ s → Ends places at (field_by places s)
 unfolding field_by
-signed-end places line at (Number n end) e = number-end places line at n end e (few_digits places n)
-signed-end places line at Nothing e = no_end places at
+signed-end places line at (Some (n, end)) e = number-end places line at n end e (few_digits places n)
+signed-end places line at None e = no_end places at
 
-space-end : (places : ℕ) (line : List ℕ) (at : ℕ) (t : Bool) → Ends places at (cond t (field_by places (fixed_at places line (at + 1))) no_field)
+space-end : (places : ℕ) (line : List ℕ) (at : ℕ) (t : Bool) → Ends places at (cond t (field_by places (fixed_at places line (at + 1))) None)
 space-end places line at true = signed-end places line at (fixed_at places line (at + 1)) refl
 space-end places line at false = no_end places at
 
-field_end : (places : ℕ) (line : List ℕ) (at : ℕ) → ((field_at places line at).end ≡ 0 → ⊥)
-    → (at ≡ 0 → ⊥) × (at + places + 3 ≤ (field_at places line at).end)
+field_end : (places : ℕ) (line : List ℕ) (at : ℕ) → (end_of (field_at places line at) ≡ 0 → ⊥)
+    → (at ≡ 0 → ⊥) × (at + places + 3 ≤ end_of (field_at places line at))
 unfolding field_at Ends
 field_end places line zero h = absurd (h refl)
 field_end places line (suc k) h = (λ z. omega arith, space-end places line (suc k) (eqb (get_or line (suc k) 0) 32) h)
@@ -99,9 +95,9 @@ module _ (line : List ℕ) where
       let (n0, l0) = next_start 0 n1 in
       omega (arith, first-start, l0, l1, l2, l3, l4, l5)
 
-time-by : (s : List ℕ) (r : Reading) → time_in s ≡ r → is_some r ≡ true → length s ≡ 19
-time-by s (R.Time n) e h = let t = time-only s n e in omega (arith, ap length t.text, text-long t.moment)
-time-by s R.Nothing e h = absurd (false≢true h)
+time-by : (s : List ℕ) (r : Option ℕ) → time_in s ≡ r → is_some r ≡ true → length s ≡ 19
+time-by s (Some n) e h = let t = time-only s n e in omega (arith, ap length t.text, text-long t.moment)
+time-by s None e h = absurd (false≢true h)
 
 pub time-long : (s : List ℕ) → is_time s ≡ true → length s ≡ 19
 unfolding is_time

@@ -1,43 +1,39 @@
-// Changes as lines. Each function writes at a place and answers the place past what it wrote.
+// Changes as lines.
 ghost use mathlib.Core.List.{flatten};
 ghost use Rattle.std.specs.Prelude.{◌+◌, ◌*◌, ◌≤◌, length, take};
-ghost use Rattle.text.specs.Places.{Wrote, Room};
+ghost use Rattle.text.specs.Writes.{Fits, HasRoom, Writes};
 ghost use Rattle.reports.specs.Reports.{what_text, change_line, changes_text, changes_of};
 
-use text::{put_decimal, put_word};
+use text::Writer;
 
-fn put_what(out: &mut [u8], at: usize, what: u64) -> usize
-    requires { at + length (what_text what) ≤ length out.old }
-    ensures { Wrote out.old at (what_text what) out.new result }
+fn put_what(w: &mut Writer<'_>, what: u64)
+    requires { Fits w.old (what_text what) }
+    ensures { Writes w.old (what_text what) w.new }
 {
     if what == 1 {
-        return put_word(out, at, b" dropped\n");
+        w.put_word(b" dropped\n");
+    } else if what == 2 {
+        w.put_word(b" START_TIME\n");
+    } else {
+        w.put_word(b" STOP_TIME\n");
     }
-    if what == 2 {
-        return put_word(out, at, b" START_TIME\n");
-    }
-    put_word(out, at, b" STOP_TIME\n")
 }
 
-fn put_change(out: &mut [u8], at: usize, line: u64, what: u64) -> usize
-    requires { Room out.old at (change_line line what) }
-    ensures { Wrote out.old at (flatten (change_line line what)) out.new result }
+fn put_change(w: &mut Writer<'_>, line: u64, what: u64)
+    requires { HasRoom w.old (change_line line what) }
+    ensures { Writes w.old (flatten (change_line line what)) w.new }
 {
-    let a = put_decimal(out, at, line);
-    put_what(out, a, what)
+    w.put_decimal(line);
+    put_what(w, what);
 }
 
 // The first changes of a room.
-pub(crate) fn put_changes(out: &mut [u8], at: usize, words: &[u64], count: usize) -> usize
+pub(crate) fn put_changes(w: &mut Writer<'_>, words: &[u64], count: usize)
     requires count_in_bounds { 2 * count ≤ length words.now }
-    requires words_in_bounds { at + length (changes_text (take count (changes_of words.now))) ≤ length out.old }
-    ensures { Wrote out.old at (changes_text (take count (changes_of words.now))) out.new result }
+    requires words_in_bounds { Fits w.old (changes_text (take count (changes_of words.now))) }
+    ensures { Writes w.old (changes_text (take count (changes_of words.now))) w.new }
 {
-    let mut end = at;
-    let mut k = 0;
-    while k < count {
-        end = put_change(out, end, words[2 * k], words[2 * k + 1]);
-        k += 1;
+    for k in 0..count {
+        put_change(w, words[2 * k], words[2 * k + 1]);
     }
-    end
 }

@@ -1,54 +1,29 @@
-// Points as lines. Each function writes at a place and answers the place past what it wrote.
+// Points as lines.
 ghost use mathlib.Core.List.{flatten};
 ghost use Rattle.std.specs.Prelude.{◌+◌, ◌*◌, ◌≤◌, length, take};
 ghost use Rattle.text.specs.Numbers.{numbers};
-ghost use Rattle.text.specs.Places.{Wrote, Room};
+ghost use Rattle.text.specs.Writes.{Fits, HasRoom, Writes};
 ghost use Rattle.reports.specs.Reports.{point_line, points_text, points_of};
 
-use text::{put, put_decimal, put_signed};
+use text::Writer;
 
-// Each number after a space.
-fn put_values(out: &mut [u8], at: usize, values: &[i64]) -> usize
-    requires { at + length (numbers values.now) ≤ length out.old }
-    ensures { Wrote out.old at (numbers values.now) out.new result }
+fn put_point(w: &mut Writer<'_>, seconds: u64, values: &[i64])
+    requires { HasRoom w.old (point_line seconds values.now) }
+    ensures { Writes w.old (flatten (point_line seconds values.now)) w.new }
 {
-    let mut end = at;
-    let mut k = 0;
-    while k < values.len() {
-        end = put(out, end, b' ');
-        end = put_signed(out, end, values[k]);
-        k += 1;
-    }
-    end
-}
-
-fn put_point(out: &mut [u8], at: usize, seconds: u64, values: &[i64]) -> usize
-    requires { Room out.old at (point_line seconds values.now) }
-    ensures { Wrote out.old at (flatten (point_line seconds values.now)) out.new result }
-{
-    let a = put_decimal(out, at, seconds);
-    let b = put_values(out, a, values);
-    put(out, b, b'\n')
+    w.put_decimal(seconds);
+    w.put_numbers(values);
+    w.put(b'\n');
 }
 
 // The first points of two rooms.
-pub(crate) fn put_points(
-    out: &mut [u8],
-    at: usize,
-    epochs: &[u64],
-    values: &[i64],
-    count: usize,
-) -> usize
+pub(crate) fn put_points(w: &mut Writer<'_>, epochs: &[u64], values: &[i64], count: usize)
     requires count_in_bounds { (count ≤ length epochs.now) × (6 * count ≤ length values.now) }
-    requires values_in_bounds { at + length (points_text (take count (points_of epochs.now values.now))) ≤ length out.old }
-    ensures { Wrote out.old at (points_text (take count (points_of epochs.now values.now))) out.new result }
+    requires values_in_bounds { Fits w.old (points_text (take count (points_of epochs.now values.now))) }
+    ensures { Writes w.old (points_text (take count (points_of epochs.now values.now))) w.new }
 {
-    let mut end = at;
-    let mut k = 0;
-    while k < count {
+    for k in 0..count {
         let from = 6 * k;
-        end = put_point(out, end, epochs[k], &values[from..from + 6]);
-        k += 1;
+        put_point(w, epochs[k], &values[from..from + 6]);
     }
-    end
 }

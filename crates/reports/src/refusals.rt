@@ -1,25 +1,25 @@
-// Refusals as lines. Each function writes at a place and answers the place past what it wrote.
+// Refusals as lines.
 ghost use mathlib.Core.List.{flatten};
-ghost use Rattle.text.specs.Places.{Wrote, Room};
+ghost use Rattle.text.specs.Writes.{Fits, HasRoom, Writes};
 ghost use Rattle.reports.specs.Reports.{refused_line, stopped_line};
 
-use text::{put, put_decimal, put_word};
+use text::Writer;
 
-pub(crate) fn put_refused(out: &mut [u8], at: usize, number: u64) -> usize
-    requires { Room out.old at (refused_line number) }
-    ensures { Wrote out.old at (flatten (refused_line number)) out.new result }
+pub(crate) fn put_refused(w: &mut Writer<'_>, number: u64)
+    requires { HasRoom w.old (refused_line number) }
+    ensures { Writes w.old (flatten (refused_line number)) w.new }
 {
-    let a = put_word(out, at, b"refused ");
-    let b = put_decimal(out, a, number);
-    put(out, b, b'\n')
+    w.put_word(b"refused ");
+    w.put_decimal(number);
+    w.put(b'\n');
 }
 
 // Where reading stops.
-pub(crate) fn put_stopped(out: &mut [u8], at: usize, line: u64) -> usize
-    requires { Room out.old at (stopped_line line) }
-    ensures { Wrote out.old at (flatten (stopped_line line)) out.new result }
+pub(crate) fn put_stopped(w: &mut Writer<'_>, line: u64)
+    requires { HasRoom w.old (stopped_line line) }
+    ensures { Writes w.old (flatten (stopped_line line)) w.new }
 {
-    let a = put_word(out, at, b"refused 15 ");
-    let b = put_decimal(out, a, line);
-    put(out, b, b'\n')
+    w.put_word(b"refused 15 ");
+    w.put_decimal(line);
+    w.put(b'\n');
 }

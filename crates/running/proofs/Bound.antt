@@ -19,9 +19,8 @@ use Rattle.steps.specs.Refusals.{predict_refusal, agrees, correct_refusal}
 use Rattle.steps.specs.Steps.{predict_by, predict_of, judged, correct_by, correct_of}
 use Rattle.rules.proofs.Tests.{clear}
 use Rattle.running.specs.declared.RunAnswer.{RunAnswer}
-use Rattle.running.specs.declared.AfterRun.{AfterRun}
 use Rattle.running.specs.Samples.{samples_in}
-use Rattle.running.specs.Runs.{come, corrected, correcting, predicted, predicting, taken_by, taken, over, on_by, on, run_rules, run_refusal, run_by, run_of}
+use Rattle.running.specs.Runs.{come, corrected, correcting, predicted, predicting, taken_by, taken, over, on_by, on, run_rules, run_refusal, run_by, run_of, AfterRun}
 use Rattle.running.specs.Bound.{WithinAllowance}
 use Rattle.running.proofs.Kept.{waits, rests, taken-holds, not-refused}
 

@@ -14,17 +14,16 @@ use Rattle.session.specs.declared.State.TheVariants.{Closed, Settled, Awaiting, 
 use Rattle.session.specs.Holding.{state_holds, holds, is_settled, is_awaiting, settled, awaiting}
 use Rattle.session.proofs.Rules.{holding}
 use Rattle.steps.specs.declared.ReportedPoint.{ReportedPoint}
-use Rattle.steps.specs.declared.Prediction.{Prediction}
 use Rattle.steps.specs.declared.Correction.{Correction}
-use Rattle.steps.specs.declared.Prediction.TheVariants as P
 use Rattle.steps.specs.declared.Correction.TheVariants as C
 use Rattle.steps.specs.Refusals.{predict_refusal}
 use Rattle.steps.specs.Steps.{predict_by, predict_of, correct_of}
 use Rattle.steps.proofs.Changes.{clash-of}
 use Rattle.steps.proofs.Left.{predict-awaits, predict-leaves, correct-leaves}
 use Rattle.running.specs.declared.RunAnswer.{RunAnswer}
-use Rattle.running.specs.declared.AfterRun.{AfterRun}
-use Rattle.running.specs.Runs.{corrected, correcting, predicted, predicting, taken_by, taken, over}
+use Rattle.running.specs.Runs.{corrected, correcting, predicted, predicting, taken_by, taken, over, AfterRun}
+use Rattle.steps.specs.Answers.{Prediction}
+use Rattle.std.specs.Prelude.{Ok, Err}
 
 -- ---- single calls on a session that holds
 
@@ -53,16 +52,16 @@ module _ (s : Session) (h : holds s ≡ true) where
       by Awaiting e f = absurd (false≢true (sym f))
       by Starting e f = absurd (false≢true (open-state Starting e))
 
-unrefused : (s : Session) (q : ReportedPoint) → (predict_of s).answer ≡ P.Predicted q → predict_refusal s ≡ 0
+unrefused : (s : Session) (q : ReportedPoint) → (predict_of s).answer ≡ Ok q → predict_refusal s ≡ 0
 unfolding predict_of
 unrefused s q e = go (predict_refusal s) e
   where
-    go : (n : ℕ) → (predict_by n s).answer ≡ P.Predicted q → n ≡ 0
+    go : (n : ℕ) → (predict_by n s).answer ≡ Ok q → n ≡ 0
     go zero e = refl
     go (suc n) e = absurd (clash-of (cc))
 
 -- a prediction that is answered leaves a session that awaits a correction
-pub predicted-awaits : (s : Session) (q : ReportedPoint) → (predict_of s).answer ≡ P.Predicted q → awaiting (predict_of s).session ≡ true
+pub predicted-awaits : (s : Session) (q : ReportedPoint) → (predict_of s).answer ≡ Ok q → awaiting (predict_of s).session ≡ true
 predicted-awaits s q e = predict-awaits s (unrefused s q e)
 
 -- ---- a sample
@@ -80,8 +79,8 @@ module _ (r : RunAnswer) (a : Sample) where
   predicting-holds s h = go (predict_of s).session (predict-holds s h) (predict_of s).answer
     where
       go : (t : Session) → holds t ≡ true → (p : Prediction) → holds (predicted r a t p).session ≡ true
-      go t h (P.Predicted q) = correcting-holds t h
-      go t h (P.Refused n) = h
+      go t h (Ok q) = correcting-holds t h
+      go t h (Err n) = h
 
 pub taken-holds : (run : AfterRun) (a : Sample) → holds run.session ≡ true → holds (taken run a).session ≡ true
 unfolding taken
@@ -106,8 +105,8 @@ taken-used run a = by (is_awaiting run.session.state)
     after s = omega (arith, corrected-used run.answer (correct_of s a).session (correct_of s a).answer)
 
     first : (s : Session) (p : Prediction) → (predicted run.answer a s p).answer.used ≤ run.answer.used + 1
-    first s (P.Predicted q) = after s
-    first s (P.Refused n) = omega arith
+    first s (Ok q) = after s
+    first s (Err n) = omega arith
 
     by : (t : Bool) → (taken_by t run.answer run.session a).answer.used ≤ run.answer.used + 1
     by true = after run.session

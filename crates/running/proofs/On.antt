@@ -9,9 +9,8 @@ use lib.ListN.{length, drop, drop_of_length-le}
 use Rattle.rules.specs.Rules.{Gives}
 use Rattle.ticks.specs.declared.Sample.{Sample}
 use Rattle.session.specs.declared.Session.{Session}
-use Rattle.running.specs.declared.AfterRun.{AfterRun}
 use Rattle.running.specs.Samples.{samples_in, sample_at}
-use Rattle.running.specs.Runs.{taken, over, on_by, on, run_rules, run_refusal, run_by, run_of}
+use Rattle.running.specs.Runs.{taken, over, on_by, on, run_rules, run_refusal, run_by, run_of, AfterRun}
 use Rattle.running.proofs.Read.{drop-samples}
 
 module _ (wanted : ℕ) (run : AfterRun) where

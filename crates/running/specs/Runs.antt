@@ -1,17 +1,20 @@
 -- A run: single calls, one after the other, that predict and correct with the samples of a slice. Definitions only.
-use Rattle.std.specs.Prelude.{ℕ, zero, suc, ◌+◌, ◌%◌, Bool, true, false, not, ◌||◌, List, [], ◌∷◌, eqb, leb, Float, length}
+use Rattle.std.specs.Prelude.{ℕ, zero, suc, ◌+◌, ◌%◌, Bool, true, false, not, ◌||◌, List, [], ◌∷◌, eqb, leb, Float, length, Ok, Err}
 use Rattle.rules.specs.Rules.{first_of}
 use Rattle.ticks.specs.declared.Sample.{Sample}
 use Rattle.session.specs.declared.Session.{Session}
 use Rattle.session.specs.Holding.{is_awaiting, settled}
-use Rattle.steps.specs.declared.Prediction.{Prediction}
 use Rattle.steps.specs.declared.Correction.{Correction}
-use Rattle.steps.specs.declared.Prediction.TheVariants as P
 use Rattle.steps.specs.declared.Correction.TheVariants as C
 use Rattle.steps.specs.Steps.{predict_of, correct_of}
+use Rattle.steps.specs.declared.After.{After}
 use Rattle.running.specs.declared.RunAnswer.{RunAnswer}
-use Rattle.running.specs.declared.AfterRun.{AfterRun}
 use Rattle.running.specs.Samples.{samples_in}
+use Rattle.steps.specs.Answers.{Prediction}
+
+-- the record as a run leaves it, beside the answer
+abbrev pub AfterRun : Type 0
+AfterRun = After RunAnswer
 
 -- what a run has come to: the session, the number of its last call, the points settled and the samples used
 abbrev pub come : Session → ℕ → ℕ → ℕ → AfterRun
@@ -30,8 +33,8 @@ correcting r s a = corrected r (correct_of s a).session (correct_of s a).answer
 
 -- a prediction comes before it; where that is refused the sample is not used
 abbrev pub predicted : RunAnswer → Sample → Session → Prediction → AfterRun
-predicted r a s (P.Predicted q) = correcting r s a
-predicted r a s (P.Refused n) = come s n r.points r.used
+predicted r a s (Ok q) = correcting r s a
+predicted r a s (Err n) = come s n r.points r.used
 
 abbrev pub predicting : RunAnswer → Session → Sample → AfterRun
 predicting r s a = predicted r a (predict_of s).session (predict_of s).answer

@@ -1,27 +1,21 @@
 // The run, sample after sample.
 ghost use Rattle.std.specs.Prelude.{◌≡◌, true, ◌+◌, ◌^◌, ◌<◌};
-ghost use Rattle.session.specs.Holding.{is_awaiting, holds, settled, awaiting};
+ghost use Rattle.session.specs.Holding.{holds, settled, awaiting};
 ghost use Rattle.running.specs.Samples.{samples_in};
 ghost use Rattle.running.specs.Runs.{come, correcting, taken, over, on, run_of};
 ghost use Rattle.running.specs.Readied.{readied};
 
 use crate::samples::sample_at;
 use crate::{AfterRun, RunAnswer};
+use rules::Refusal;
 use session::{Session, State, is_settled};
-use steps::{Correction, Prediction, correct_awaiting, predict_settled};
+use steps::{After, Correction, correct_awaiting, predict_settled};
 use ticks::Sample;
-
-// A session before a sample is read, and 0 or the number that refuses its prediction.
-#[derive(Clone, Copy)]
-pub struct Readied {
-    pub session: Session,
-    pub number: u8,
-}
 
 fn come_to(session: Session, number: u8, points: u64, used: usize) -> AfterRun
     ensures { result ≡ come session number points used }
 {
-    AfterRun {
+    After {
         session,
         answer: RunAnswer {
             number,
@@ -39,46 +33,25 @@ fn correct_on(r: RunAnswer, s: Session, a: Sample) -> AfterRun
     ensures { result ≡ correcting r s a }
 {
     let after = correct_awaiting(s, a);
-    let session = after.session;
-    let answer = after.answer;
     let used = r.used + 1;
-    match answer {
-        Correction::Accepted(_) => come_to(session, 0, r.points + 1, used),
-        Correction::Again(_, _) => come_to(session, 0, r.points, used),
-        Correction::Refused(number) => come_to(session, number, r.points, used),
+    match after.answer {
+        Correction::Accepted(_) => come_to(after.session, 0, r.points + 1, used),
+        Correction::Again(_, _) => come_to(after.session, 0, r.points, used),
+        Correction::Refused(number) => come_to(after.session, number, r.points, used),
     }
 }
 
-fn is_waiting(state: State) -> bool
-    ensures { result ≡ is_awaiting state }
-{
-    match state {
-        State::Closed => false,
-        State::Settled => false,
-        State::Awaiting => true,
-        State::Starting => false,
-    }
-}
-
-// A session that awaits a correction, which predicts first where it does not. Where its prediction is refused, the number.
-fn made_ready(s: Session) -> Readied
+// A session that awaits a correction, which predicts first where it does not, or what refuses its prediction.
+fn made_ready(s: Session) -> Result<Session, Refusal>
     requires { holds s ≡ true }
     ensures { result ≡ readied s }
 {
-    let state = s.state;
-    if is_waiting(state) {
-        return Readied {
-            session: s,
-            number: 0,
-        };
+    if matches!(s.state, State::Awaiting) {
+        return Ok(s);
     }
     let after = predict_settled(s);
-    let session = after.session;
-    let answer = after.answer;
-    match answer {
-        Prediction::Predicted(_) => Readied { session, number: 0 },
-        Prediction::Refused(number) => Readied { session, number },
-    }
+    let _ = after.answer?;
+    Ok(after.session)
 }
 
 // One sample more.
@@ -88,22 +61,17 @@ fn take(run: AfterRun, a: Sample) -> AfterRun
     requires used_bound { run.answer.used + 1 < 2 ^ 64 }
     ensures { result ≡ taken run a }
 {
-    let answer = run.answer;
-    let ready = made_ready(run.session);
-    let session = ready.session;
-    if ready.number != 0 {
-        return come_to(session, ready.number, answer.points, answer.used);
+    let r = run.answer;
+    match made_ready(run.session) {
+        Ok(session) => correct_on(r, session, a),
+        Err(refusal) => come_to(run.session, refusal.number(), r.points, r.used),
     }
-    correct_on(answer, session, a)
 }
 
 fn is_over(wanted: u64, r: RunAnswer) -> bool
     ensures { result ≡ over wanted r }
 {
-    if r.number != 0 {
-        return true;
-    }
-    wanted <= r.points
+    r.number != 0 || wanted <= r.points
 }
 
 // A session that is known to be settled.
@@ -111,16 +79,12 @@ fn run_settled(s: Session, samples: &[f64], wanted: u64) -> AfterRun
     requires { settled s ≡ true }
     ensures { result ≡ on wanted (come s 0 0 0) (samples_in samples.now) }
 {
-    let count = samples.len() / 3;
     let mut run = come_to(s, 0, 0, 0);
-    let mut i: usize = 0;
-    while i < count {
-        let answer = run.answer;
-        if is_over(wanted, answer) {
+    for i in 0..samples.len() / 3 {
+        if is_over(wanted, run.answer) {
             return run;
         }
         run = take(run, sample_at(samples, i));
-        i += 1;
     }
     run
 }

@@ -1,103 +1,103 @@
--- A record as the words of a line, in the order in which they stand, and the place past the last: 0 where one of them is not there.
--- Definitions only.
-use Rattle.std.specs.Prelude.{ℕ, ◌^◌, cond, List, [], ◌∷◌, eqb}
+-- A record as the words of a line, in the order in which they stand. Definitions only.
+use Rattle.std.specs.Prelude.{ℕ, ◌^◌, ℤ, cond, List, [], ◌∷◌, eqb, ltb, Option, Some, None}
+use Rattle.exact.specs.declared.Exact.{Exact}
+use Rattle.axis.specs.declared.Axis.{Axis}
+use Rattle.axis.specs.declared.Motion.{Motion}
+use Rattle.axis.specs.declared.Tolerances.{Tolerances}
+use Rattle.axis.specs.Formulas.{axis_with}
+use Rattle.session.specs.declared.Session.{Session}
 use Rattle.session.specs.declared.State.{State}
 use Rattle.session.specs.declared.State.TheVariants.{Closed, Settled, Awaiting, Starting}
-use Rattle.axis.specs.Formulas.{axis_with}
-use Rattle.script.specs.declared.pieces.Three.{Three}
-use Rattle.script.specs.declared.pieces.ReadExact.{ReadExact}
-use Rattle.script.specs.declared.pieces.ReadMotion.{ReadMotion}
-use Rattle.script.specs.declared.pieces.ReadSamples.{ReadSamples}
-use Rattle.script.specs.declared.pieces.ReadAxis.{ReadAxis}
-use Rattle.script.specs.declared.pieces.ReadTolerances.{ReadTolerances}
-use Rattle.script.specs.declared.pieces.Head.{Head}
-use Rattle.script.specs.declared.pieces.ReadSession.{ReadSession}
-use Rattle.script.specs.Words.{natural_word, small_word, integer_word}
+use Rattle.script.specs.declared.pieces.Settings.{Settings}
+use Rattle.script.specs.Words.{Reader, ◌>>=◌, pure, given, natural, integer}
 
-unfoldable pub three_at : List ℕ → ℕ → Three
-three_at line at =
-    let a = integer_word line at in
-    let b = integer_word line a.end in
-    let c = integer_word line b.end in
-    record { a = a.value; b = b.value; c = c.value; end = c.end }
+unfoldable pub three : Reader (ℤ × ℤ × ℤ)
+three = do
+  a ← integer
+  b ← integer
+  c ← integer
+  pure (a, b, c)
 
 -- ---- one axis: the two sums, the held sum, nine samples, the estimate
 
--- the whole, and the part, which is below 2^32
-unfoldable pub exact_at : List ℕ → ℕ → ReadExact
-exact_at line at =
-    let whole = integer_word line at in
-    let part = small_word line whole.end (2 ^ 32) in
-    record { value = record { whole = whole.value; part = part.value }; end = part.end }
+-- a number below 2^32
+unfoldable pub part_of : ℕ → Option ℕ
+part_of n = cond (ltb n (2 ^ 32)) (Some n) None
 
-unfoldable pub motion_at : List ℕ → ℕ → ReadMotion
-motion_at line at =
-    let position = exact_at line at in
-    let velocity = exact_at line position.end in
-    record { value = record { position = position.value; velocity = velocity.value }; end = velocity.end }
+unfoldable pub exactly : Reader Exact
+exactly = do
+  whole ← integer
+  n ← natural
+  part ← given (part_of n)
+  pure (record { whole = whole; part = part })
 
-unfoldable pub samples_at : List ℕ → ℕ → ReadSamples
-samples_at line at =
-    let p = three_at line at in
-    let q = three_at line p.end in
-    let r = three_at line q.end in
-    record { samples = p.a ∷ p.b ∷ p.c ∷ q.a ∷ q.b ∷ q.c ∷ r.a ∷ r.b ∷ r.c ∷ []; end = r.end }
+unfoldable pub motion : Reader Motion
+motion = do
+  position ← exactly
+  velocity ← exactly
+  pure (record { position = position; velocity = velocity })
 
-unfoldable pub axis_at : List ℕ → ℕ → ReadAxis
-axis_at line at =
-    let first = exact_at line at in
-    let second = exact_at line first.end in
-    let older = motion_at line second.end in
-    let samples = samples_at line older.end in
-    let estimate = motion_at line samples.end in
-    record { axis = axis_with first.value second.value older.value samples.samples estimate.value; end = estimate.end }
+unfoldable pub samples : Reader (List ℤ)
+samples = do
+  p ← three
+  q ← three
+  r ← three
+  pure (p.0 ∷ p.1 ∷ p.2 ∷ q.0 ∷ q.1 ∷ q.2 ∷ r.0 ∷ r.1 ∷ r.2 ∷ [])
 
--- ---- the record: seven naturals, then three axes
+unfoldable pub axis : Reader Axis
+axis = do
+  first ← exactly
+  second ← exactly
+  older ← motion
+  row ← samples
+  estimate ← motion
+  pure (axis_with first second older row estimate)
 
-unfoldable pub state_of : ℕ → State
-state_of n = cond (eqb n 0) Closed (cond (eqb n 1) Settled (cond (eqb n 2) Awaiting Starting))
+-- ---- the record: a state, the settings, two counts and three axes
 
-unfoldable pub tolerances_at : List ℕ → ℕ → ReadTolerances
-tolerances_at line at =
-    let position = natural_word line at in
-    let velocity = natural_word line position.end in
-    record { value = record { position = position.value; velocity = velocity.value }; end = velocity.end }
+unfoldable pub state_of : ℕ → Option State
+state_of n =
+    cond (eqb n 0) (Some Closed)
+    (cond (eqb n 1) (Some Settled)
+    (cond (eqb n 2) (Some Awaiting)
+    (cond (eqb n 3) (Some Starting)
+    None)))
 
-unfoldable pub head_at : List ℕ → ℕ → Head
-head_at line at =
-    let state = small_word line at 4 in
-    let points = natural_word line state.end in
-    let tolerances = tolerances_at line points.end in
-    let limit = natural_word line tolerances.end in
-    let accepted = natural_word line limit.end in
-    let corrections = natural_word line accepted.end in
-    record {
-      state = state_of state.value;
-      points = points.value;
-      tolerances = tolerances.value;
-      limit = limit.value;
-      accepted = accepted.value;
-      corrections = corrections.value;
-      end = corrections.end;
-    }
+unfoldable pub state : Reader State
+state = do
+  n ← natural
+  given (state_of n)
 
-unfoldable pub session_at : List ℕ → ℕ → ReadSession
-session_at line at =
-    let head = head_at line at in
-    let x = axis_at line head.end in
-    let y = axis_at line x.end in
-    let z = axis_at line y.end in
-    record {
-      session = record {
-        state = head.state;
-        points = head.points;
-        tolerances = head.tolerances;
-        limit = head.limit;
-        accepted = head.accepted;
-        corrections = head.corrections;
-        x = x.axis;
-        y = y.axis;
-        z = z.axis;
-      };
-      end = z.end;
-    }
+unfoldable pub tolerances : Reader Tolerances
+tolerances = do
+  position ← natural
+  velocity ← natural
+  pure (record { position = position; velocity = velocity })
+
+unfoldable pub settings : Reader Settings
+settings = do
+  points ← natural
+  both ← tolerances
+  limit ← natural
+  pure (record { points = points; tolerances = both; limit = limit })
+
+unfoldable pub session : Reader Session
+session = do
+  which ← state
+  set ← settings
+  accepted ← natural
+  corrections ← natural
+  x ← axis
+  y ← axis
+  z ← axis
+  pure (record {
+    state = which;
+    points = set.points;
+    tolerances = set.tolerances;
+    limit = set.limit;
+    accepted = accepted;
+    corrections = corrections;
+    x = x;
+    y = y;
+    z = z;
+  })

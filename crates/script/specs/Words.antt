@@ -1,54 +1,74 @@
--- A word of a line: the number that stands after one space at a place, and the place past it.
--- A word that is not there is 0 and ends at place 0, and after place 0 there is no word. Definitions only.
-use Rattle.std.specs.Prelude.{ℕ, zero, suc, ◌+◌, cond, List, ltb, eqb, pos, get_or}
+-- The words of a line, read one after another, each after one space. Definitions only.
+use Rattle.std.specs.Prelude.{◌≡◌, ℕ, ◌+◌, Bool, cond, List, ltb, eqb, length, get_or, ℤ, Option, Some, None}
+use Rattle.integers.specs.Tests.{◌and◌}
 use Rattle.text.specs.Reading.{decimal_at, signed_at, hex_at}
-use Rattle.text.specs.declared.Unsigned.{Unsigned}
-use Rattle.text.specs.declared.Unsigned.TheVariants as U
-use Rattle.text.specs.declared.Signed.{Signed}
-use Rattle.text.specs.declared.Signed.TheVariants as S
-use Rattle.script.specs.declared.words.Natural.{Natural}
-use Rattle.script.specs.declared.words.Integer.{Integer}
 
-abbrev space : ℕ
+-- a line, and the place up to which it was read
+pub record Place : Type 0 where
+  pub line : List ℕ
+  pub at : ℕ
+
+-- the line ends there
+abbrev pub is_over : Place → Bool
+is_over p = eqb p.at (length p.line)
+
+-- ---- reading: what stands at a place, where it does, and the place past it
+
+abbrev pub Reader : Type 0 → Type 0
+Reader A = Place → Option (A × Place)
+
+abbrev pub and_then : {A B : Type 0} → Option (A × Place) → (A → Reader B) → Option (B × Place)
+and_then None f = None
+and_then (Some r) f = f r.0 r.1
+
+-- one after the other: without the first there is nothing
+infixl 10 ◌>>=◌
+abbrev pub ◌>>=◌ : {A B : Type 0} → Reader A → (A → Reader B) → Reader B
+read >>= f = λ p. and_then (read p) f
+
+infixl 10 ◌>>◌
+abbrev pub ◌>>◌ : {A B : Type 0} → Reader A → Reader B → Reader B
+read >> other = read >>= (λ _. other)
+
+abbrev pub pure : {A : Type 0} → A → Reader A
+pure a = λ p. Some (a, p)
+
+-- what a function answers that reads, and the place that it leaves
+abbrev pub Reads : {A : Type 0} → Option (A × Place) → Option A → Place → Type 0
+Reads read (Some a) after = read ≡ Some (a, after)
+Reads read None after = read ≡ None
+
+-- where there is one
+abbrev pub given : {A : Type 0} → Option A → Reader A
+given None = λ p. None
+given (Some a) = pure a
+
+-- ---- a word
+
+abbrev pub space : ℕ
 space = 32
 
--- the place past the space at a place, and 0 where there is none
-unfoldable pub past_space : List ℕ → ℕ → ℕ
-past_space line zero = 0
-past_space line (suc k) = cond (eqb (get_or line (suc k) 0) space) (suc k + 1) 0
+-- a space; none stands at a line's start
+unfoldable pub a_space : Reader (Unit {0})
+a_space p = cond (ltb 0 p.at and eqb (get_or p.line p.at 0) space) (Some (tt, record { line = p.line; at = p.at + 1 })) None
 
--- what is read from a place on, and `none` at place 0
-unfoldable pub from : {A : Type 0} → A → (ℕ → A) → ℕ → A
-from none read zero = none
-from none read (suc k) = read (suc k)
+-- what is read up to a place of the line
+abbrev pub up_to : {A : Type 0} → List ℕ → Option (A × ℕ) → Option (A × Place)
+up_to line None = None
+up_to line (Some r) = Some (r.0, record { line = line; at = r.1 })
 
--- ---- a natural, and the bits of a float
+unfoldable pub natural : Reader ℕ
+natural = do
+  a_space
+  λ p. up_to p.line (decimal_at p.line p.at)
 
-abbrev pub no_natural : Natural
-no_natural = record { value = 0; end = 0 }
+unfoldable pub integer : Reader ℤ
+integer = do
+  a_space
+  λ p. up_to p.line (signed_at p.line p.at)
 
-unfoldable pub natural_of : Unsigned → Natural
-natural_of (U.Number n end) = record { value = n; end = end }
-natural_of U.Nothing = no_natural
-
-unfoldable pub natural_word : List ℕ → ℕ → Natural
-natural_word line at = from no_natural (λ k. natural_of (decimal_at line k)) (past_space line at)
-
--- one below a limit
-unfoldable pub small_word : List ℕ → ℕ → ℕ → Natural
-small_word line at limit = cond (ltb (natural_word line at).value limit) (natural_word line at) no_natural
-
-unfoldable pub bits_word : List ℕ → ℕ → Natural
-bits_word line at = from no_natural (λ k. natural_of (hex_at line k)) (past_space line at)
-
--- ---- a whole
-
-abbrev pub no_integer : Integer
-no_integer = record { value = pos 0; end = 0 }
-
-unfoldable pub integer_of : Signed → Integer
-integer_of (S.Number z end) = record { value = z; end = end }
-integer_of S.Nothing = no_integer
-
-unfoldable pub integer_word : List ℕ → ℕ → Integer
-integer_word line at = from no_integer (λ k. integer_of (signed_at line k)) (past_space line at)
+-- the bits of a float
+unfoldable pub bits : Reader ℕ
+bits = do
+  a_space
+  λ p. up_to p.line (hex_at p.line p.at)

@@ -1,13 +1,13 @@
 // The calls of a script, read from a line.
 ghost use Rattle.std.specs.Prelude.{◌≡◌};
-ghost use Rattle.script.specs.Calls.{begins_with, is_word, bare_name, name_of, settings_at, floats_at, open_at, sample_at, load_at};
+ghost use Rattle.script.specs.Words.{Reads};
+ghost use Rattle.script.specs.Calls.{bare_name, name_of, sample, point, floats, opening, loaded, load};
 
-use crate::digits::read_bytes;
-use crate::pieces::{read_three, read_tolerances};
-use crate::words::{bits_word, natural_word, past_space};
-use axis::Tolerances;
-use image::float_of;
-use session::{Session, WholePoint};
+use crate::pieces::{Settings, read_settings, read_three};
+use crate::series::{Piece, Series, read_series};
+use crate::words::Words;
+use image::{Loaded, float_of};
+use session::WholePoint;
 use ticks::Sample;
 
 #[derive(Clone, Copy)]
@@ -23,203 +23,159 @@ pub enum Name {
     Save,
     Load,
     Run,
-    Nothing,
 }
 
-#[derive(Clone, Copy)]
-pub struct Floats {
-    pub values: [f64; 64],
-    pub count: usize,
-    pub end: usize,
-}
-
-// What an opening has before its floats.
-#[derive(Clone, Copy)]
-pub struct Settings {
-    pub points: usize,
-    pub tolerances: Tolerances,
-    pub limit: u64,
-    pub point: WholePoint,
-    pub end: usize,
-}
-
-#[derive(Clone, Copy)]
+#[derive(Drop)]
 pub struct OpenCall {
     pub settings: Settings,
-    pub floats: Floats,
-}
-
-#[derive(Clone, Copy)]
-pub struct ReadSample {
-    pub value: Sample,
-    pub end: usize,
-}
-
-// The number 0 and a session, or 14.
-#[derive(Clone, Copy)]
-pub struct LoadCall {
-    pub number: u8,
-    pub session: Session,
-    pub end: usize,
-}
-
-fn begins(line: &[u8], word: &[u8]) -> bool
-    ensures { result ≡ begins_with line.now word.now }
-{
-    if line.len() < word.len() {
-        return false;
-    }
-    let mut i = 0;
-    while i < word.len() {
-        if line[i] != word[i] {
-            return false;
-        }
-        i += 1;
-    }
-    true
-}
-
-fn is_word(line: &[u8], word: &[u8]) -> bool
-    ensures { result ≡ is_word line.now word.now }
-{
-    if line.len() != word.len() {
-        return false;
-    }
-    begins(line, word)
+    pub point: WholePoint,
+    pub floats: Series<f64, 64>,
 }
 
 // A call that carries nothing is the whole line.
-fn bare_name(line: &[u8]) -> Name
+#[tactic(auto, unfolding(crate::specs::Calls::bare_name))]
+fn bare_name(line: &[u8]) -> Option<Name>
     ensures { result ≡ bare_name line.now }
 {
-    if is_word(line, b"predict") {
-        return Name::Predict;
+    if line == b"predict".as_slice() {
+        return Some(Name::Predict);
     }
-    if is_word(line, b"withdraw") {
-        return Name::Withdraw;
+    if line == b"withdraw".as_slice() {
+        return Some(Name::Withdraw);
     }
-    if is_word(line, b"save") {
-        return Name::Save;
+    if line == b"save".as_slice() {
+        return Some(Name::Save);
     }
-    Name::Nothing
+    None
 }
 
 // Which call a line begins with, in at most 4,096 bytes.
-pub fn name_of(line: &[u8]) -> Name
+#[tactic(auto, unfolding(crate::specs::Calls::name_of))]
+pub fn name_of(line: &[u8]) -> Option<Name>
     ensures { result ≡ name_of line.now }
 {
     if 4096 < line.len() {
-        return Name::Nothing;
+        return None;
     }
-    if begins(line, b"open") {
-        return Name::Open;
+    if line.starts_with(b"open") {
+        return Some(Name::Open);
     }
-    if begins(line, b"correct") {
-        return Name::Correct;
+    if line.starts_with(b"correct") {
+        return Some(Name::Correct);
     }
-    if begins(line, b"fill") {
-        return Name::Fill;
+    if line.starts_with(b"fill") {
+        return Some(Name::Fill);
     }
-    if begins(line, b"start") {
-        return Name::Start;
+    if line.starts_with(b"start") {
+        return Some(Name::Start);
     }
-    if begins(line, b"refine") {
-        return Name::Refine;
+    if line.starts_with(b"refine") {
+        return Some(Name::Refine);
     }
-    if begins(line, b"why") {
-        return Name::Why;
+    if line.starts_with(b"why") {
+        return Some(Name::Why);
     }
-    if begins(line, b"load") {
-        return Name::Load;
+    if line.starts_with(b"load") {
+        return Some(Name::Load);
     }
-    if begins(line, b"run") {
-        return Name::Run;
+    if line.starts_with(b"run") {
+        return Some(Name::Run);
     }
     bare_name(line)
 }
 
-fn read_settings(line: &[u8], at: usize) -> Settings
-    ensures { result ≡ settings_at line.now at }
-{
-    let points = natural_word(line, at);
-    let read = read_tolerances(line, points.end);
-    let limit = natural_word(line, read.end);
-    let p = read_three(line, limit.end);
-    let v = read_three(line, p.end);
-    let tolerances = read.value;
-    Settings {
-        points: points.value as usize,
-        tolerances,
-        limit: limit.value,
-        point: WholePoint {
-            x: p.a,
-            y: p.b,
-            z: p.c,
-            vx: v.a,
-            vy: v.b,
-            vz: v.c,
-        },
-        end: v.end,
+impl Piece for f64 {
+    ghost use Rattle.script.specs.Calls.{float};
+
+    ghost reader = { float };
+
+    const NONE: f64 = 0.0;
+
+    #[tactic(auto, unfolding(crate::specs::Calls::float))]
+    fn read(words: &mut Words<'_>) -> Option<f64> {
+        Some(float_of(words.bits()?))
     }
 }
 
-// Floats up to the end of the line, 64 at most.
-pub fn read_floats(line: &[u8], at: usize) -> Floats
-    ensures { result ≡ floats_at line.now at }
-{
-    let mut values = [0.0f64; 64];
-    let mut count: usize = 0;
-    let mut end = at;
-    while count < 64 {
-        if end == line.len() {
-            break;
-        }
-        let word = bits_word(line, end);
-        values[count] = float_of(word.value);
-        end = word.end;
-        count += 1;
-    }
-    Floats { values, count, end }
-}
+impl Piece for u8 {
+    ghost use Rattle.script.specs.Bytes.{byte};
 
-// What follows the name of an opening or of a first round, which ends at a place.
-pub fn read_open(line: &[u8], at: usize) -> OpenCall
-    ensures { result ≡ open_at line.now at }
-{
-    let settings = read_settings(line, at);
-    let floats = read_floats(line, settings.end);
-    OpenCall { settings, floats }
-}
+    ghost reader = { byte };
 
-// What follows the name of a correction or of a question why, which ends at a place.
-pub fn read_sample(line: &[u8], at: usize) -> ReadSample
-    ensures { result ≡ sample_at line.now at }
-{
-    let x = bits_word(line, at);
-    let y = bits_word(line, x.end);
-    let z = bits_word(line, y.end);
-    ReadSample {
-        value: Sample {
-            x: float_of(x.value),
-            y: float_of(y.value),
-            z: float_of(z.value),
-        },
-        end: z.end,
+    const NONE: u8 = 0;
+
+    fn read(words: &mut Words<'_>) -> Option<u8> {
+        words.byte()
     }
 }
 
-// What follows the name of a loading, which ends at a place: one word of digits.
-pub fn read_load(line: &[u8], at: usize) -> LoadCall
-    ensures { result ≡ load_at line.now at }
+// Floats up to the end of the line, N at most.
+#[tactic(auto, unfolding(crate::specs::Calls::floats))]
+pub fn read_floats<const N: usize>(words: &mut Words<'_>) -> Option<Series<f64, N>>
+    ensures { Reads (floats N words.old) result words.new }
 {
-    let read = read_bytes(line, past_space(line, at));
-    let values = read.values;
-    let count = read.count;
-    let loaded = image::read(&values[..count]);
-    let session = loaded.session;
-    LoadCall {
-        number: loaded.number,
-        session,
-        end: if count == 0 { 0 } else { read.end },
+    read_series(words)
+}
+
+#[tactic(auto, unfolding(crate::specs::Calls::point))]
+fn read_point(words: &mut Words<'_>) -> Option<WholePoint>
+    ensures { Reads (point words.old) result words.new }
+{
+    let (x, y, z) = read_three(words)?;
+    let (vx, vy, vz) = read_three(words)?;
+    Some(WholePoint {
+        x,
+        y,
+        z,
+        vx,
+        vy,
+        vz,
+    })
+}
+
+// What follows the name of an opening or of a first round.
+#[tactic(auto, unfolding(crate::specs::Calls::opening))]
+pub fn read_open(words: &mut Words<'_>) -> Option<OpenCall>
+    ensures { Reads (opening words.old) result words.new }
+{
+    let settings = read_settings(words)?;
+    let point = read_point(words)?;
+    let floats = read_floats(words)?;
+    Some(OpenCall {
+        settings,
+        point,
+        floats,
+    })
+}
+
+// What follows the name of a correction or of a question why.
+#[tactic(auto, unfolding(crate::specs::Calls::sample))]
+pub fn read_sample(words: &mut Words<'_>) -> Option<Sample>
+    ensures { Reads (sample words.old) result words.new }
+{
+    let x = f64::read(words)?;
+    let y = f64::read(words)?;
+    let z = f64::read(words)?;
+    Some(Sample { x, y, z })
+}
+
+// No bytes are no word.
+#[tactic(auto, unfolding(crate::specs::Calls::loaded))]
+fn loaded(bytes: &[u8]) -> Option<Loaded>
+    ensures { result ≡ loaded bytes.now }
+{
+    if bytes.is_empty() {
+        return None;
     }
+    Some(image::read(bytes))
+}
+
+// What follows the name of a loading: one word of digits.
+#[tactic(auto, unfolding(crate::specs::Calls::load))]
+pub fn read_load(words: &mut Words<'_>) -> Option<Loaded>
+    ensures { Reads (load words.old) result words.new }
+{
+    words.space()?;
+    let bytes = read_series::<u8, 2048>(words)?;
+    loaded(bytes.as_slice())
 }

@@ -1,7 +1,7 @@
-// Answers and records as lines, written into a lent buffer at a place. Each function answers the place past what it wrote.
+// Answers and records as lines, written into a lent buffer.
 ghost use Rattle.std.specs.Prelude.{◌≡◌};
 ghost use mathlib.Core.List.{flatten};
-ghost use Rattle.text.specs.Places.{Wrote, Room};
+ghost use Rattle.text.specs.Writes.{Fits, HasRoom, Writes};
 ghost use Rattle.script.specs.Lines.{natural, two, exactly, value, motion_values, point_values, answer_values, answer_line};
 ghost use Rattle.script.specs.Lines.{motion_words, axis_words, number_of, settings_words, axes_words, record_line, no_call_line};
 
@@ -10,103 +10,103 @@ use exact::{Exact, Reported};
 use image::bits_of;
 use session::{Session, State};
 use steps::{Answer, ReportedMotion, ReportedPoint};
-use text::{put, put_decimal, put_hex, put_numbers, put_signed, put_word};
+use text::Writer;
 
 // ---- words
 
-pub(crate) fn put_natural(out: &mut [u8], at: usize, n: u64) -> usize
-    requires { Room out.old at (natural n) }
-    ensures { Wrote out.old at (flatten (natural n)) out.new result }
+pub(crate) fn put_natural(w: &mut Writer<'_>, n: u64)
+    requires { HasRoom w.old (natural n) }
+    ensures { Writes w.old (flatten (natural n)) w.new }
 {
-    let next = put(out, at, b' ');
-    put_decimal(out, next, n)
+    w.put(b' ');
+    w.put_decimal(n);
 }
 
-pub(crate) fn put_two(out: &mut [u8], at: usize, m: u64, n: u64) -> usize
-    requires { Room out.old at (two m n) }
-    ensures { Wrote out.old at (flatten (two m n)) out.new result }
+pub(crate) fn put_two(w: &mut Writer<'_>, m: u64, n: u64)
+    requires { HasRoom w.old (two m n) }
+    ensures { Writes w.old (flatten (two m n)) w.new }
 {
-    let next = put_natural(out, at, m);
-    put_natural(out, next, n)
+    put_natural(w, m);
+    put_natural(w, n);
 }
 
-fn put_exact(out: &mut [u8], at: usize, e: Exact) -> usize
-    requires { Room out.old at (exactly e) }
-    ensures { Wrote out.old at (flatten (exactly e)) out.new result }
+fn put_exact(w: &mut Writer<'_>, e: Exact)
+    requires { HasRoom w.old (exactly e) }
+    ensures { Writes w.old (flatten (exactly e)) w.new }
 {
-    let a = put(out, at, b' ');
-    let b = put_signed(out, a, e.whole);
-    put_natural(out, b, e.part as u64)
+    w.put(b' ');
+    w.put_signed(e.whole);
+    put_natural(w, e.part as u64);
 }
 
-pub(crate) fn put_reported(out: &mut [u8], at: usize, r: Reported) -> usize
-    requires { Room out.old at (value r) }
-    ensures { Wrote out.old at (flatten (value r)) out.new result }
+pub(crate) fn put_reported(w: &mut Writer<'_>, r: Reported)
+    requires { HasRoom w.old (value r) }
+    ensures { Writes w.old (flatten (value r)) w.new }
 {
-    let a = put_exact(out, at, r.exact);
-    let b = put(out, a, b' ');
-    put_hex(out, b, bits_of(r.report))
+    put_exact(w, r.exact);
+    w.put(b' ');
+    w.put_hex(bits_of(r.report));
 }
 
 // ---- an answer
 
-pub(crate) fn put_motion_reported(out: &mut [u8], at: usize, m: ReportedMotion) -> usize
-    requires { Room out.old at (motion_values m) }
-    ensures { Wrote out.old at (flatten (motion_values m)) out.new result }
+pub(crate) fn put_motion_reported(w: &mut Writer<'_>, m: ReportedMotion)
+    requires { HasRoom w.old (motion_values m) }
+    ensures { Writes w.old (flatten (motion_values m)) w.new }
 {
-    let a = put_reported(out, at, m.position);
-    put_reported(out, a, m.velocity)
+    put_reported(w, m.position);
+    put_reported(w, m.velocity);
 }
 
-pub(crate) fn put_point(out: &mut [u8], at: usize, q: ReportedPoint) -> usize
-    requires { Room out.old at (point_values q) }
-    ensures { Wrote out.old at (flatten (point_values q)) out.new result }
+pub(crate) fn put_point(w: &mut Writer<'_>, q: ReportedPoint)
+    requires { HasRoom w.old (point_values q) }
+    ensures { Writes w.old (flatten (point_values q)) w.new }
 {
-    let a = put_motion_reported(out, at, q.x);
-    let b = put_motion_reported(out, a, q.y);
-    put_motion_reported(out, b, q.z)
+    put_motion_reported(w, q.x);
+    put_motion_reported(w, q.y);
+    put_motion_reported(w, q.z);
 }
 
-fn put_values(out: &mut [u8], at: usize, answer: Answer) -> usize
-    requires { Room out.old at (answer_values answer) }
-    ensures { Wrote out.old at (flatten (answer_values answer)) out.new result }
+fn put_values(w: &mut Writer<'_>, answer: Answer)
+    requires { HasRoom w.old (answer_values answer) }
+    ensures { Writes w.old (flatten (answer_values answer)) w.new }
 {
-    let a = put_natural(out, at, answer.number as u64);
-    let b = put_natural(out, a, answer.kind as u64);
-    let c = put_point(out, b, answer.point);
-    put_motion_reported(out, c, answer.change)
+    put_natural(w, answer.number as u64);
+    put_natural(w, answer.kind as u64);
+    put_point(w, answer.point);
+    put_motion_reported(w, answer.change);
 }
 
 // The call's name, and what was answered.
-pub fn put_answer(out: &mut [u8], at: usize, call: &[u8], answer: Answer) -> usize
-    requires { Room out.old at (answer_line call.now answer) }
-    ensures { Wrote out.old at (flatten (answer_line call.now answer)) out.new result }
+pub fn put_answer(w: &mut Writer<'_>, call: &[u8], answer: Answer)
+    requires { HasRoom w.old (answer_line call.now answer) }
+    ensures { Writes w.old (flatten (answer_line call.now answer)) w.new }
 {
-    let a = put_word(out, at, call);
-    let b = put_values(out, a, answer);
-    put(out, b, b'\n')
+    w.put_word(call);
+    put_values(w, answer);
+    w.put(b'\n');
 }
 
 // ---- a record
 
-fn put_motion(out: &mut [u8], at: usize, m: Motion) -> usize
-    requires { Room out.old at (motion_words m) }
-    ensures { Wrote out.old at (flatten (motion_words m)) out.new result }
+fn put_motion(w: &mut Writer<'_>, m: Motion)
+    requires { HasRoom w.old (motion_words m) }
+    ensures { Writes w.old (flatten (motion_words m)) w.new }
 {
-    let a = put_exact(out, at, m.position);
-    put_exact(out, a, m.velocity)
+    put_exact(w, m.position);
+    put_exact(w, m.velocity);
 }
 
-fn put_axis(out: &mut [u8], at: usize, a: Axis) -> usize
-    requires { Room out.old at (axis_words a) }
-    ensures { Wrote out.old at (flatten (axis_words a)) out.new result }
+fn put_axis(w: &mut Writer<'_>, a: Axis)
+    requires { HasRoom w.old (axis_words a) }
+    ensures { Writes w.old (flatten (axis_words a)) w.new }
 {
     let samples = a.samples;
-    let b = put_exact(out, at, a.first);
-    let c = put_exact(out, b, a.second);
-    let d = put_motion(out, c, a.older);
-    let e = put_numbers(out, d, samples, 9);
-    put_motion(out, e, a.estimate)
+    put_exact(w, a.first);
+    put_exact(w, a.second);
+    put_motion(w, a.older);
+    w.put_numbers(&samples);
+    put_motion(w, a.estimate);
 }
 
 fn number_of(s: State) -> u64
@@ -120,45 +120,45 @@ fn number_of(s: State) -> u64
     }
 }
 
-fn put_settings(out: &mut [u8], at: usize, s: Session) -> usize
-    requires { Room out.old at (settings_words s) }
-    ensures { Wrote out.old at (flatten (settings_words s)) out.new result }
+fn put_settings(w: &mut Writer<'_>, s: Session)
+    requires { HasRoom w.old (settings_words s) }
+    ensures { Writes w.old (flatten (settings_words s)) w.new }
 {
     let state = s.state;
     let tolerances = s.tolerances;
-    let a = put_natural(out, at, number_of(state));
-    let b = put_natural(out, a, s.points as u64);
-    let c = put_two(out, b, tolerances.position, tolerances.velocity);
-    put_natural(out, c, s.limit)
+    put_natural(w, number_of(state));
+    put_natural(w, s.points as u64);
+    put_two(w, tolerances.position, tolerances.velocity);
+    put_natural(w, s.limit);
 }
 
-fn put_axes(out: &mut [u8], at: usize, s: Session) -> usize
-    requires { Room out.old at (axes_words s) }
-    ensures { Wrote out.old at (flatten (axes_words s)) out.new result }
+fn put_axes(w: &mut Writer<'_>, s: Session)
+    requires { HasRoom w.old (axes_words s) }
+    ensures { Writes w.old (flatten (axes_words s)) w.new }
 {
-    let a = put_axis(out, at, s.x);
-    let b = put_axis(out, a, s.y);
-    put_axis(out, b, s.z)
+    put_axis(w, s.x);
+    put_axis(w, s.y);
+    put_axis(w, s.z);
 }
 
-pub fn put_record(out: &mut [u8], at: usize, s: Session) -> usize
-    requires { Room out.old at (record_line s) }
-    ensures { Wrote out.old at (flatten (record_line s)) out.new result }
+pub fn put_record(w: &mut Writer<'_>, s: Session)
+    requires { HasRoom w.old (record_line s) }
+    ensures { Writes w.old (flatten (record_line s)) w.new }
 {
-    let a = put_word(out, at, b"record");
-    let b = put_settings(out, a, s);
-    let c = put_two(out, b, s.accepted, s.corrections);
-    let d = put_axes(out, c, s);
-    put(out, d, b'\n')
+    w.put_word(b"record");
+    put_settings(w, s);
+    put_two(w, s.accepted, s.corrections);
+    put_axes(w, s);
+    w.put(b'\n');
 }
 
 // ---- a line that is no call
 
-pub fn put_no_call(out: &mut [u8], at: usize, number: u64) -> usize
-    requires { Room out.old at (no_call_line number) }
-    ensures { Wrote out.old at (flatten (no_call_line number)) out.new result }
+pub fn put_no_call(w: &mut Writer<'_>, number: u64)
+    requires { HasRoom w.old (no_call_line number) }
+    ensures { Writes w.old (flatten (no_call_line number)) w.new }
 {
-    let a = put_word(out, at, b"line ");
-    let b = put_decimal(out, a, number);
-    put_word(out, b, b": not a call\n")
+    w.put_word(b"line ");
+    w.put_decimal(number);
+    w.put_word(b": not a call\n");
 }

@@ -1,31 +1,31 @@
-// The answers to saving and loading as lines, written into a lent buffer at a place. Each function answers the place past what it wrote.
+// The answers to saving and loading as lines, written into a lent buffer.
 ghost use mathlib.Core.List.{flatten};
-ghost use Rattle.text.specs.Places.{Wrote, Room};
+ghost use Rattle.text.specs.Writes.{Fits, HasRoom, Writes};
 ghost use Rattle.script.specs.Lines.{save_line, load_line};
 
 use crate::digits::put_bytes;
 use crate::lines::put_natural;
 use session::Session;
-use text::{put, put_word};
+use text::Writer;
 
 // The session's image, two digits to a byte.
-pub fn put_save(out: &mut [u8], at: usize, s: Session) -> usize
-    requires { Room out.old at (save_line s) }
-    ensures { Wrote out.old at (flatten (save_line s)) out.new result }
+pub fn put_save(w: &mut Writer<'_>, s: Session)
+    requires { HasRoom w.old (save_line s) }
+    ensures { Writes w.old (flatten (save_line s)) w.new }
 {
     let mut room = [0u8; 656];
     image::save(&mut room, s);
-    let a = put_word(out, at, b"save 0 ");
-    let b = put_bytes(out, a, &room);
-    put(out, b, b'\n')
+    w.put_word(b"save 0 ");
+    put_bytes(w, &room);
+    w.put(b'\n');
 }
 
 // The number alone.
-pub fn put_load(out: &mut [u8], at: usize, number: u8) -> usize
-    requires { Room out.old at (load_line number) }
-    ensures { Wrote out.old at (flatten (load_line number)) out.new result }
+pub fn put_load(w: &mut Writer<'_>, number: u8)
+    requires { HasRoom w.old (load_line number) }
+    ensures { Writes w.old (flatten (load_line number)) w.new }
 {
-    let a = put_word(out, at, b"load");
-    let b = put_natural(out, a, number as u64);
-    put(out, b, b'\n')
+    w.put_word(b"load");
+    put_natural(w, number as u64);
+    w.put(b'\n');
 }

@@ -1,93 +1,100 @@
-// The words of a line, each after one space. A word that is not there ends at place 0, and what is read from place 0 is not there.
-ghost use Rattle.std.specs.Prelude.{◌≡◌};
-ghost use Rattle.script.specs.Words.{natural_of, integer_of, past_space, natural_word, small_word, integer_word, bits_word};
+// The words of a line, read one after another, each after one space.
+ghost use Rattle.std.specs.Prelude.{◌≡◌, ◌<◌, IfSome};
+ghost use Rattle.script.specs.Words.{Reads, is_over, a_space, natural, integer, bits};
+ghost use Rattle.script.specs.Bytes.{digit, byte};
 
-use text::{Signed, Unsigned};
+use crate::digits::digit_of;
+use std::marker::Model;
 
-#[derive(Clone, Copy)]
-pub struct Natural {
-    pub value: u64,
-    pub end: usize,
+// A line, and the place up to which it was read.
+#[derive(Drop)]
+pub struct Words<'a> {
+    line: &'a [u8],
+    at: usize,
 }
 
-#[derive(Clone, Copy)]
-pub struct Integer {
-    pub value: i64,
-    pub end: usize,
+impl<'a> Model for Words<'a> {
+    ghost use Rattle.script.specs.Words.{Place};
+
+    ghost Value = { Place };
+
+    ghost view = { λ w. record { line = w.line.now; at = w.at } };
 }
 
-fn natural_of(read: Unsigned) -> Natural
-    ensures { result ≡ natural_of read }
-{
-    match read {
-        Unsigned::Number(value, end) => Natural { value, end },
-        Unsigned::Nothing => Natural { value: 0, end: 0 },
+impl<'a> Words<'a> {
+    pub fn new(line: &'a [u8], at: usize) -> Words<'a>
+        ensures { result ≡ record { line = line.now; at = at } }
+    {
+        Words { line, at }
     }
-}
 
-fn integer_of(read: Signed) -> Integer
-    ensures { result ≡ integer_of read }
-{
-    match read {
-        Signed::Number(value, end) => Integer { value, end },
-        Signed::Nothing => Integer { value: 0, end: 0 },
+    // Whether the line ends here.
+    pub fn is_over(&self) -> bool
+        ensures { result ≡ is_over self.now }
+    {
+        self.at == self.line.len()
     }
-}
 
-// The place past the space at a place, and 0 where there is none.
-pub(crate) fn past_space(line: &[u8], at: usize) -> usize
-    ensures { result ≡ past_space line.now at }
-{
-    if at == 0 {
-        return 0;
+    // A space; none stands at a line's start.
+    #[tactic(auto, unfolding(crate::specs::Words::a_space))]
+    pub(crate) fn space(&mut self) -> Option<()>
+        ensures { Reads (a_space self.old) result self.new }
+    {
+        if self.at == 0 || self.line.get(self.at) != Some(&b' ') {
+            return None;
+        }
+        self.at += 1;
+        Some(())
     }
-    if line.len() <= at {
-        return 0;
-    }
-    if line[at] != 32 {
-        return 0;
-    }
-    at + 1
-}
 
-pub(crate) fn natural_word(line: &[u8], at: usize) -> Natural
-    ensures { result ≡ natural_word line.now at }
-{
-    let from = past_space(line, at);
-    if from == 0 {
-        return Natural { value: 0, end: 0 };
+    #[tactic(auto, unfolding(crate::specs::Words::natural))]
+    pub(crate) fn natural(&mut self) -> Option<u64>
+        ensures { Reads (natural self.old) result self.new }
+    {
+        self.space()?;
+        let (n, end) = text::read_decimal(self.line, self.at)?;
+        self.at = end;
+        Some(n)
     }
-    natural_of(text::read_decimal(line, from))
-}
 
-// A number below a limit.
-pub(crate) fn small_word(line: &[u8], at: usize, limit: u64) -> Natural
-    ensures { result ≡ small_word line.now at limit }
-{
-    let word = natural_word(line, at);
-    if word.value < limit {
-        return word;
+    #[tactic(auto, unfolding(crate::specs::Words::integer))]
+    pub(crate) fn integer(&mut self) -> Option<i64>
+        ensures { Reads (integer self.old) result self.new }
+    {
+        self.space()?;
+        let (z, end) = text::read_signed(self.line, self.at)?;
+        self.at = end;
+        Some(z)
     }
-    Natural { value: 0, end: 0 }
-}
 
-pub(crate) fn integer_word(line: &[u8], at: usize) -> Integer
-    ensures { result ≡ integer_word line.now at }
-{
-    let from = past_space(line, at);
-    if from == 0 {
-        return Integer { value: 0, end: 0 };
+    // The bits of a float.
+    #[tactic(auto, unfolding(crate::specs::Words::bits))]
+    pub(crate) fn bits(&mut self) -> Option<u64>
+        ensures { Reads (bits self.old) result self.new }
+    {
+        self.space()?;
+        let (n, end) = text::read_hex(self.line, self.at)?;
+        self.at = end;
+        Some(n)
     }
-    integer_of(text::read_signed(line, from))
-}
 
-// The bits of a float.
-pub(crate) fn bits_word(line: &[u8], at: usize) -> Natural
-    ensures { result ≡ bits_word line.now at }
-{
-    let from = past_space(line, at);
-    if from == 0 {
-        return Natural { value: 0, end: 0 };
+    #[tactic(auto, unfolding(crate::specs::Bytes::digit))]
+    fn digit(&mut self) -> Option<u8>
+        ensures value { Reads (digit self.old) result self.new }
+        ensures small { IfSome result (λ d. d < 16) }
+    {
+        let b = *self.line.get(self.at)?;
+        self.at += 1;
+        digit_of(b)
     }
-    natural_of(text::read_hex(line, from))
+
+    // A byte as two digits, the high one first.
+    #[tactic(auto, unfolding(crate::specs::Bytes::byte))]
+    pub(crate) fn byte(&mut self) -> Option<u8>
+        ensures { Reads (byte self.old) result self.new }
+    {
+        let high = self.digit()?;
+        let low = self.digit()?;
+        Some(high * 16 + low)
+    }
 }

@@ -5,13 +5,14 @@ use Prim.Native.Nat.{ℕ}
 use borrow.Author.Tests.{ne_eqb}
 use Rattle.session.specs.declared.Session.{Session}
 use Rattle.reasons.specs.declared.Reason.{Reason}
-use Rattle.text.specs.Places.{Wrote}
-use Rattle.text.proofs.Pieces.{retold}
+use Rattle.text.specs.Writes.{Writes}
+use Rattle.text.specs.declared.writing.Writer.{Writer}
+use Rattle.text.proofs.Written.{retold}
 use Rattle.sentences.specs.Sentences.{over_tolerance, said}
 use Rattle.sentences.proofs.NoWord.{NoneOf}
 
 module _ (s : Session) (r : Reason) where
-  pub as_said : {a b : List ℕ} {i j n k : ℕ} → n ≡ k → Wrote a i (flatten (said k s r)) b j → Wrote a i (flatten (said n s r)) b j
+  pub as_said : {u w : Writer} {n k : ℕ} → n ≡ k → Writes u (flatten (said k s r)) w → Writes u (flatten (said n s r)) w
   as_said e w = retold (ap (λ m. flatten (said m s r)) (sym e)) w
 
   pub another : (n : ℕ) → NoneOf n (8 ∷ 7 ∷ 6 ∷ 5 ∷ 13 ∷ 4 ∷ []) → over_tolerance s r [] ≡ said n s r

@@ -1,14 +1,14 @@
-// An exact value as a decimal, written into a lent buffer at a place. Each function that writes answers the place past what it wrote.
+// An exact value as a decimal, written into a lent buffer.
 ghost use Rattle.std.specs.Prelude.{◌≡◌, ◌+◌, ◌≤◌, ◌<◌, length};
 ghost use mathlib.Core.List.{flatten};
 ghost use Rattle.exact.specs.Numerator.{D};
-ghost use Rattle.text.specs.Places.{Wrote, Room};
+ghost use Rattle.text.specs.Writes.{Fits, HasRoom, Writes};
 ghost use Rattle.text.specs.Numbers.{last_digits};
 ghost use Rattle.sentences.specs.Decimals.{size_of, ten_decimals, shortened, sign_text, rest_text, change_text};
 
 use decimal::put_last_digits;
 use exact::Exact;
-use text::{put, put_decimal};
+use text::Writer;
 
 // Whole ticks, and what is left over D.
 #[derive(Clone, Copy)]
@@ -56,53 +56,50 @@ fn shorten(n: u64) -> Digits
 {
     let mut count: usize = 10;
     let mut number = n;
-    while 0 < count {
-        if number % 10 != 0 {
-            return Digits { count, number };
-        }
-        number = number / 10;
+    while 0 < count && number % 10 == 0 {
+        number /= 10;
         count -= 1;
     }
     Digits { count, number }
 }
 
-fn put_shortened(out: &mut [u8], at: usize, n: u64) -> usize
-    requires { at + length (shortened 10 n) ≤ length out.old }
-    ensures { Wrote out.old at (shortened 10 n) out.new result }
+fn put_shortened(w: &mut Writer<'_>, n: u64)
+    requires { Fits w.old (shortened 10 n) }
+    ensures { Writes w.old (shortened 10 n) w.new }
 {
     let digits = shorten(n);
-    put_last_digits(out, at, digits.count, digits.number)
+    put_last_digits(w, digits.count, digits.number);
 }
 
-fn put_sign(out: &mut [u8], at: usize, whole: i64) -> usize
-    requires { at + length (sign_text whole) ≤ length out.old }
-    ensures { Wrote out.old at (sign_text whole) out.new result }
+fn put_sign(w: &mut Writer<'_>, whole: i64)
+    requires { Fits w.old (sign_text whole) }
+    ensures { Writes w.old (sign_text whole) w.new }
 {
     if whole < 0 {
-        return put(out, at, b'-');
+        w.put(b'-');
+        return;
     }
-    at
 }
 
-fn put_rest(out: &mut [u8], at: usize, rest: u64) -> usize
+fn put_rest(w: &mut Writer<'_>, rest: u64)
     requires rest_bound { rest < D }
-    requires rest_in_bounds { at + length (rest_text rest) ≤ length out.old }
-    ensures { Wrote out.old at (rest_text rest) out.new result }
+    requires rest_in_bounds { Fits w.old (rest_text rest) }
+    ensures { Writes w.old (rest_text rest) w.new }
 {
     if rest == 0 {
-        return at;
+        return;
     }
-    let next = put(out, at, b'.');
-    put_shortened(out, next, ten_decimals(rest))
+    w.put(b'.');
+    put_shortened(w, ten_decimals(rest));
 }
 
-pub(crate) fn put_change(out: &mut [u8], at: usize, e: Exact) -> usize
+pub(crate) fn put_change(w: &mut Writer<'_>, e: Exact)
     requires part_bound { e.part < D }
-    requires room { Room out.old at (change_text e) }
-    ensures { Wrote out.old at (flatten (change_text e)) out.new result }
+    requires room { HasRoom w.old (change_text e) }
+    ensures { Writes w.old (flatten (change_text e)) w.new }
 {
     let size = size_of(e);
-    let a = put_sign(out, at, e.whole);
-    let b = put_decimal(out, a, size.whole);
-    put_rest(out, b, size.rest)
+    put_sign(w, e.whole);
+    w.put_decimal(size.whole);
+    put_rest(w, size.rest);
 }

@@ -1,122 +1,119 @@
-// What is said of a correction that is not accepted, written into a lent buffer at a place. Each function answers the place past what it wrote.
+// What is said of a correction that is not accepted, written into a lent buffer.
 ghost use Rattle.std.specs.Prelude.{◌≡◌, ◌<◌};
 ghost use mathlib.Core.List.{flatten};
 ghost use Rattle.exact.specs.Numerator.{D};
-ghost use Rattle.text.specs.Places.{Wrote, Room};
+ghost use Rattle.text.specs.Writes.{Fits, HasRoom, Writes};
 ghost use Rattle.sentences.specs.Sentences.{moved, against, counted, over_tolerance, named, said, is_accepted, told, sentence};
 
 use crate::decimals::put_change;
 use crate::words::{put_cardinal, put_name, put_ordinal, put_unit};
 use reasons::{Explanation, Reason};
 use session::Session;
-use text::{put, put_decimal, put_word};
+use text::Writer;
 
 // ---- a value that moved by more than its tolerance
 
-fn put_moved(out: &mut [u8], at: usize, r: Reason) -> usize
+fn put_moved(w: &mut Writer<'_>, r: Reason)
     requires part_bound { r.change.exact.part < D }
-    requires room { Room out.old at (moved r) }
-    ensures { Wrote out.old at (flatten (moved r)) out.new result }
+    requires room { HasRoom w.old (moved r) }
+    ensures { Writes w.old (flatten (moved r)) w.new }
 {
     let change = r.change.exact;
-    let a = put_name(out, at, r.value);
-    let b = put_word(out, a, b" moved ");
-    let c = put_change(out, b, change);
-    put_unit(out, c, r.value)
+    put_name(w, r.value);
+    w.put_word(b" moved ");
+    put_change(w, change);
+    put_unit(w, r.value);
 }
 
-fn put_against(out: &mut [u8], at: usize, tolerance: u64) -> usize
-    requires { Room out.old at (against tolerance) }
-    ensures { Wrote out.old at (flatten (against tolerance)) out.new result }
+fn put_against(w: &mut Writer<'_>, tolerance: u64)
+    requires { HasRoom w.old (against tolerance) }
+    ensures { Writes w.old (flatten (against tolerance)) w.new }
 {
-    let a = put_word(out, at, b", its tolerance is ");
-    let b = put_decimal(out, a, tolerance);
-    put_word(out, b, b"; ")
+    w.put_word(b", its tolerance is ");
+    w.put_decimal(tolerance);
+    w.put_word(b"; ");
 }
 
-fn put_counted(out: &mut [u8], at: usize, s: Session) -> usize
-    requires { Room out.old at (counted s) }
-    ensures { Wrote out.old at (flatten (counted s)) out.new result }
+fn put_counted(w: &mut Writer<'_>, s: Session)
+    requires { HasRoom w.old (counted s) }
+    ensures { Writes w.old (flatten (counted s)) w.new }
 {
-    let a = put_ordinal(out, at, s.corrections);
-    let b = put_word(out, a, b" correction of ");
-    put_cardinal(out, b, s.limit)
+    put_ordinal(w, s.corrections);
+    w.put_word(b" correction of ");
+    put_cardinal(w, s.limit);
 }
 
-fn put_over(out: &mut [u8], at: usize, s: Session, r: Reason, end: &[u8]) -> usize
+fn put_over(w: &mut Writer<'_>, s: Session, r: Reason, end: &[u8])
     requires part_bound { r.change.exact.part < D }
-    requires room { Room out.old at (over_tolerance s r end.now) }
-    ensures { Wrote out.old at (flatten (over_tolerance s r end.now)) out.new result }
+    requires room { HasRoom w.old (over_tolerance s r end.now) }
+    ensures { Writes w.old (flatten (over_tolerance s r end.now)) w.new }
 {
-    let a = put_moved(out, at, r);
-    let b = put_against(out, a, r.tolerance);
-    let c = put_counted(out, b, s);
-    put_word(out, c, end)
+    put_moved(w, r);
+    put_against(w, r.tolerance);
+    put_counted(w, s);
+    w.put_word(end);
 }
 
 // ---- what is said with each number
 
-fn put_named(out: &mut [u8], at: usize, value: u8, rest: &[u8]) -> usize
-    requires { Room out.old at (named value rest.now) }
-    ensures { Wrote out.old at (flatten (named value rest.now)) out.new result }
+fn put_named(w: &mut Writer<'_>, value: u8, rest: &[u8])
+    requires { HasRoom w.old (named value rest.now) }
+    ensures { Writes w.old (flatten (named value rest.now)) w.new }
 {
-    let a = put_name(out, at, value);
-    put_word(out, a, rest)
+    put_name(w, value);
+    w.put_word(rest);
 }
 
-fn put_said(out: &mut [u8], at: usize, number: u8, s: Session, r: Reason) -> usize
+fn put_said(w: &mut Writer<'_>, number: u8, s: Session, r: Reason)
     requires part_bound { r.change.exact.part < D }
-    requires room { Room out.old at (said number s r) }
-    ensures { Wrote out.old at (flatten (said number s r)) out.new result }
+    requires room { HasRoom w.old (said number s r) }
+    ensures { Writes w.old (flatten (said number s r)) w.new }
 {
     match number {
-        4 => put_named(out, at, r.value, b" of the sample is a NaN: refused 4"),
-        13 => put_named(out, at, r.value, b" of the sample is infinite: refused 13"),
+        4 => put_named(w, r.value, b" of the sample is a NaN: refused 4"),
+        13 => put_named(w, r.value, b" of the sample is infinite: refused 13"),
         5 => put_named(
-            out,
-            at,
+            w,
             r.value,
             b" of the sample rounds to more than 268435456 ticks: refused 5",
         ),
-        6 => put_named(out, at, r.value, b" would be out of range: refused 6"),
-        7 => put_word(out, at, b"no correction is awaited: refused 7"),
-        8 => put_over(out, at, s, r, b", the last: refused 8"),
-        _ => put_over(out, at, s, r, b""),
+        6 => put_named(w, r.value, b" would be out of range: refused 6"),
+        7 => w.put_word(b"no correction is awaited: refused 7"),
+        8 => put_over(w, s, r, b", the last: refused 8"),
+        _ => put_over(w, s, r, b""),
     }
 }
 
 // ---- the sentence of a line of a script
 
+#[tactic(auto, unfolding(crate::specs::Sentences::is_accepted))]
 fn is_accepted(e: Explanation) -> bool
     ensures { result ≡ is_accepted e }
 {
-    if e.number != 0 {
-        return false;
-    }
-    e.kind == 1
+    e.number == 0 && e.kind == 1
 }
 
-fn put_told(out: &mut [u8], at: usize, line: u64, s: Session, e: Explanation) -> usize
+fn put_told(w: &mut Writer<'_>, line: u64, s: Session, e: Explanation)
     requires part_bound { e.reason.change.exact.part < D }
-    requires room { Room out.old at (told line s e) }
-    ensures { Wrote out.old at (flatten (told line s e)) out.new result }
+    requires room { HasRoom w.old (told line s e) }
+    ensures { Writes w.old (flatten (told line s e)) w.new }
 {
     let reason = e.reason;
-    let a = put_word(out, at, b"line ");
-    let b = put_decimal(out, a, line);
-    let c = put_word(out, b, b": ");
-    let d = put_said(out, c, e.number, s, reason);
-    put(out, d, b'\n')
+    w.put_word(b"line ");
+    w.put_decimal(line);
+    w.put_word(b": ");
+    put_said(w, e.number, s, reason);
+    w.put(b'\n');
 }
 
 // Nothing is said of a correction that is accepted.
-pub fn put_sentence(out: &mut [u8], at: usize, line: u64, s: Session, e: Explanation) -> usize
+pub fn put_sentence(w: &mut Writer<'_>, line: u64, s: Session, e: Explanation)
     requires part_bound { e.reason.change.exact.part < D }
-    requires room { Room out.old at (sentence line s e) }
-    ensures { Wrote out.old at (flatten (sentence line s e)) out.new result }
+    requires room { HasRoom w.old (sentence line s e) }
+    ensures { Writes w.old (flatten (sentence line s e)) w.new }
 {
     if is_accepted(e) {
-        return at;
+        return;
     }
-    put_told(out, at, line, s, e)
+    put_told(w, line, s, e);
 }

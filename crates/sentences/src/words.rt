@@ -1,68 +1,69 @@
-// The words of a sentence, written into a lent buffer at a place. Each function answers the place past what it wrote.
+// The words of a sentence, written into a lent buffer.
 ghost use Rattle.std.specs.Prelude.{◌+◌, ◌≤◌, length};
-ghost use Rattle.text.specs.Places.{Wrote};
+ghost use Rattle.text.specs.Writes.{Fits, HasRoom, Writes};
 ghost use Rattle.sentences.specs.Sentences.{name_text, ordinal, cardinal, unit_text};
 
-use text::put_word;
+use text::Writer;
 
 // The name of a value.
-pub(crate) fn put_name(out: &mut [u8], at: usize, value: u8) -> usize
-    requires { at + length (name_text value) ≤ length out.old }
-    ensures { Wrote out.old at (name_text value) out.new result }
+pub(crate) fn put_name(w: &mut Writer<'_>, value: u8)
+    requires { Fits w.old (name_text value) }
+    ensures { Writes w.old (name_text value) w.new }
 {
     match value {
-        1 => put_word(out, at, b"x"),
-        2 => put_word(out, at, b"y"),
-        3 => put_word(out, at, b"z"),
-        4 => put_word(out, at, b"vx"),
-        5 => put_word(out, at, b"vy"),
-        6 => put_word(out, at, b"vz"),
-        _ => at,
+        1 => w.put_word(b"x"),
+        2 => w.put_word(b"y"),
+        3 => w.put_word(b"z"),
+        4 => w.put_word(b"vx"),
+        5 => w.put_word(b"vy"),
+        6 => w.put_word(b"vz"),
+        _ => {}
     }
 }
 
 // Which correction it is after so many.
-pub(crate) fn put_ordinal(out: &mut [u8], at: usize, n: u64) -> usize
-    requires { at + length (ordinal n) ≤ length out.old }
-    ensures { Wrote out.old at (ordinal n) out.new result }
+pub(crate) fn put_ordinal(w: &mut Writer<'_>, n: u64)
+    requires { Fits w.old (ordinal n) }
+    ensures { Writes w.old (ordinal n) w.new }
 {
     match n {
-        0 => put_word(out, at, b"first"),
-        1 => put_word(out, at, b"second"),
-        2 => put_word(out, at, b"third"),
-        3 => put_word(out, at, b"fourth"),
-        4 => put_word(out, at, b"fifth"),
-        5 => put_word(out, at, b"sixth"),
-        6 => put_word(out, at, b"seventh"),
-        7 => put_word(out, at, b"eighth"),
-        _ => at,
+        0 => w.put_word(b"first"),
+        1 => w.put_word(b"second"),
+        2 => w.put_word(b"third"),
+        3 => w.put_word(b"fourth"),
+        4 => w.put_word(b"fifth"),
+        5 => w.put_word(b"sixth"),
+        6 => w.put_word(b"seventh"),
+        7 => w.put_word(b"eighth"),
+        _ => {}
     }
 }
 
-pub(crate) fn put_cardinal(out: &mut [u8], at: usize, n: u64) -> usize
-    requires { at + length (cardinal n) ≤ length out.old }
-    ensures { Wrote out.old at (cardinal n) out.new result }
+pub(crate) fn put_cardinal(w: &mut Writer<'_>, n: u64)
+    requires { Fits w.old (cardinal n) }
+    ensures { Writes w.old (cardinal n) w.new }
 {
     match n {
-        1 => put_word(out, at, b"one"),
-        2 => put_word(out, at, b"two"),
-        3 => put_word(out, at, b"three"),
-        4 => put_word(out, at, b"four"),
-        5 => put_word(out, at, b"five"),
-        6 => put_word(out, at, b"six"),
-        7 => put_word(out, at, b"seven"),
-        8 => put_word(out, at, b"eight"),
-        _ => at,
+        1 => w.put_word(b"one"),
+        2 => w.put_word(b"two"),
+        3 => w.put_word(b"three"),
+        4 => w.put_word(b"four"),
+        5 => w.put_word(b"five"),
+        6 => w.put_word(b"six"),
+        7 => w.put_word(b"seven"),
+        8 => w.put_word(b"eight"),
+        _ => {}
     }
 }
 
 // The unit of a value's change.
-pub(crate) fn put_unit(out: &mut [u8], at: usize, value: u8) -> usize
-    requires { at + length (unit_text value) ≤ length out.old }
-    ensures { Wrote out.old at (unit_text value) out.new result }
+pub(crate) fn put_unit(w: &mut Writer<'_>, value: u8)
+    requires { Fits w.old (unit_text value) }
+    ensures { Writes w.old (unit_text value) w.new }
 {
     if 3 < value {
-        return put_word(out, at, b" ticks per step");
+        w.put_word(b" ticks per step");
+        return;
     }
-    put_word(out, at, b" ticks")
+    w.put_word(b" ticks");
 }

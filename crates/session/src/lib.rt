@@ -18,7 +18,7 @@ pub use numbers::{points_hold, settings_hold};
 pub use points::{point_change, point_in_range, points_agree};
 pub use whole::exact_point;
 
-#[derive(Clone, Copy)]
+#[derive(Clone, Copy, PartialEq, Eq)]
 pub enum State {
     Closed,
     Settled,
@@ -40,7 +40,7 @@ pub struct Session {
 }
 
 // A position and a velocity on each axis.
-#[derive(Clone, Copy)]
+#[derive(Clone, Copy, PartialEq, Eq)]
 pub struct Point {
     pub x: Motion,
     pub y: Motion,

@@ -12,6 +12,7 @@ use axis::{
 };
 use ticks::WholeSample;
 
+#[tactic(auto, unfolding(crate::specs::Moves::nowhere))]
 pub fn no_point() -> Point
     ensures { result ≡ nowhere }
 {
@@ -24,6 +25,7 @@ pub fn no_point() -> Point
 }
 
 // The last estimate.
+#[tactic(auto, unfolding(crate::specs::Moves::estimate_of))]
 pub fn estimate_of(s: Session) -> Point
     ensures { result ≡ estimate_of s }
 {
@@ -33,6 +35,7 @@ pub fn estimate_of(s: Session) -> Point
     Point { x, y, z }
 }
 
+#[tactic(auto, unfolding(crate::specs::Moves::predicted_point))]
 pub fn predicted_point(s: Session) -> Point
     requires { ReadySession s }
     ensures { result ≡ predicted_point s }
@@ -55,6 +58,7 @@ pub fn corrected_point(s: Session, w: WholeSample) -> Point
 }
 
 // Settled at the last accepted point.
+#[tactic(auto, unfolding(crate::specs::Moves::settled_again))]
 pub fn settle(s: Session) -> Session
     ensures { result ≡ settled_again s }
 {
@@ -62,38 +66,31 @@ pub fn settle(s: Session) -> Session
     let x = with_estimate(s.x, none);
     let y = with_estimate(s.y, none);
     let z = with_estimate(s.z, none);
-    let tolerances = s.tolerances;
     Session {
         state: State::Settled,
-        points: s.points,
-        tolerances,
-        limit: s.limit,
-        accepted: s.accepted,
         corrections: 0,
         x,
         y,
         z,
+        ..s
     }
 }
 
 // Awaiting a correction of an estimate, after so many.
+#[tactic(auto, unfolding(crate::specs::Moves::awaiting_at))]
 pub fn await_at(s: Session, corrections: u64, q: Point) -> Session
     ensures { result ≡ awaiting_at s corrections q }
 {
     let x = with_estimate(s.x, q.x);
     let y = with_estimate(s.y, q.y);
     let z = with_estimate(s.z, q.z);
-    let tolerances = s.tolerances;
     Session {
         state: State::Awaiting,
-        points: s.points,
-        tolerances,
-        limit: s.limit,
-        accepted: s.accepted,
         corrections,
         x,
         y,
         z,
+        ..s
     }
 }
 
@@ -106,21 +103,19 @@ pub fn accept(s: Session, w: WholeSample) -> Session
     let x = advanced_axis(s.points, s.x, w.x);
     let y = advanced_axis(s.points, s.y, w.y);
     let z = advanced_axis(s.points, s.z, w.z);
-    let tolerances = s.tolerances;
     Session {
         state: State::Settled,
-        points: s.points,
-        tolerances,
-        limit: s.limit,
         accepted: s.accepted + 1,
         corrections: 0,
         x,
         y,
         z,
+        ..s
     }
 }
 
-// Settled at point 0. The samples of each axis are newest first.
+// Settled at point 0. The samples of each axis are newest first; three lists, as the theorems on `opened_session` name them.
+#[tactic(auto, unfolding(crate::specs::Moves::opened_session))]
 pub fn open_at(
     points: usize,
     tolerances: Tolerances,
@@ -154,6 +149,7 @@ pub fn open_at(
 }
 
 // A record that was never opened, or that an open that was refused has closed.
+#[tactic(auto, unfolding(crate::specs::Moves::closed_session))]
 pub fn closed() -> Session
     ensures { result ≡ closed_session }
 {

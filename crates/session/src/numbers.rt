@@ -4,26 +4,16 @@ ghost use Rattle.session.specs.Numbers.{points_hold, settings_hold};
 
 use axis::Tolerances;
 
+#[tactic(auto, unfolding(crate::specs::Numbers::points_hold))]
 pub fn points_hold(p: usize) -> bool
     ensures { result ≡ points_hold p }
 {
-    if p < 1 {
-        return false;
-    }
-    p <= 9
+    (1..=9).contains(&p)
 }
 
+#[tactic(auto, unfolding(crate::specs::Numbers::settings_hold))]
 pub fn settings_hold(tolerances: Tolerances, limit: u64) -> bool
     ensures { result ≡ settings_hold tolerances limit }
 {
-    if 1_048_576 < tolerances.position {
-        return false;
-    }
-    if 1_048_576 < tolerances.velocity {
-        return false;
-    }
-    if limit < 1 {
-        return false;
-    }
-    limit <= 8
+    tolerances.position <= 1_048_576 && tolerances.velocity <= 1_048_576 && (1..=8).contains(&limit)
 }

@@ -12,13 +12,7 @@ use axis::{Motion, Tolerances, agrees_on, change, in_range, larger_change};
 pub fn point_in_range(q: Point) -> bool
     ensures { result ≡ point_in_range q }
 {
-    if !in_range(q.x) {
-        return false;
-    }
-    if !in_range(q.y) {
-        return false;
-    }
-    in_range(q.z)
+    in_range(q.x) && in_range(q.y) && in_range(q.z)
 }
 
 // Whether on every axis the position and the velocity moved by no more than their tolerances.
@@ -28,13 +22,9 @@ pub fn points_agree(tolerances: Tolerances, q: Point, before: Point) -> bool
     requires placed_point_2 { PlacedPoint before }
     ensures { result ≡ points_agree tolerances q before }
 {
-    if !agrees_on(tolerances, q.x, before.x) {
-        return false;
-    }
-    if !agrees_on(tolerances, q.y, before.y) {
-        return false;
-    }
-    agrees_on(tolerances, q.z, before.z)
+    agrees_on(tolerances, q.x, before.x)
+        && agrees_on(tolerances, q.y, before.y)
+        && agrees_on(tolerances, q.z, before.z)
 }
 
 // By how much a position moved at most, and a velocity.

@@ -9,7 +9,7 @@ use axis::Tolerances;
 use epoch_steps::AfterRound;
 use running::AfterRun;
 use session::{Session, WholePoint};
-use steps::{AfterCorrect, AfterOpen, AfterPredict, AfterWithdraw};
+use steps::{After, AfterCorrect, AfterOpen, AfterPredict, AfterWithdraw};
 use ticks::Sample;
 
 pub fn open(
@@ -24,7 +24,7 @@ pub fn open(
 {
     let mut session = s;
     let answer = crate::open(&mut session, points, tolerances, limit, point, samples);
-    AfterOpen { session, answer }
+    After { session, answer }
 }
 
 pub fn predict(s: Session) -> AfterPredict
@@ -32,7 +32,7 @@ pub fn predict(s: Session) -> AfterPredict
 {
     let mut session = s;
     let answer = crate::predict(&mut session);
-    AfterPredict { session, answer }
+    After { session, answer }
 }
 
 pub fn correct(s: Session, a: Sample) -> AfterCorrect
@@ -40,7 +40,7 @@ pub fn correct(s: Session, a: Sample) -> AfterCorrect
 {
     let mut session = s;
     let answer = crate::correct(&mut session, a);
-    AfterCorrect { session, answer }
+    After { session, answer }
 }
 
 pub fn withdraw(s: Session) -> AfterWithdraw
@@ -48,7 +48,7 @@ pub fn withdraw(s: Session) -> AfterWithdraw
 {
     let mut session = s;
     let answer = crate::withdraw(&mut session);
-    AfterWithdraw { session, answer }
+    After { session, answer }
 }
 
 pub fn start(
@@ -63,7 +63,7 @@ pub fn start(
 {
     let mut session = s;
     let answer = crate::start(&mut session, points, tolerances, limit, epoch, samples);
-    AfterRound { session, answer }
+    After { session, answer }
 }
 
 pub fn refine(s: Session, samples: &[f64]) -> AfterRound
@@ -71,7 +71,7 @@ pub fn refine(s: Session, samples: &[f64]) -> AfterRound
 {
     let mut session = s;
     let answer = crate::refine(&mut session, samples);
-    AfterRound { session, answer }
+    After { session, answer }
 }
 
 pub fn run(s: Session, samples: &[f64], wanted: u64) -> AfterRun
@@ -79,5 +79,5 @@ pub fn run(s: Session, samples: &[f64], wanted: u64) -> AfterRun
 {
     let mut session = s;
     let answer = crate::run(&mut session, samples, wanted);
-    AfterRun { session, answer }
+    After { session, answer }
 }

@@ -16,31 +16,26 @@ use Rattle.session.specs.declared.Session.{Session}
 use Rattle.session.specs.Moves.{nowhere, corrected_point}
 use Rattle.session.specs.Requests.{Request}
 use Rattle.steps.specs.declared.ReportedMotion.{ReportedMotion}
-use Rattle.steps.specs.declared.Opening.{Opening}
-use Rattle.steps.specs.declared.Prediction.{Prediction}
 use Rattle.steps.specs.declared.Correction.{Correction}
-use Rattle.steps.specs.declared.Withdrawal.{Withdrawal}
-use Rattle.steps.specs.declared.Opening.TheVariants as O
-use Rattle.steps.specs.declared.Prediction.TheVariants as P
 use Rattle.steps.specs.declared.Correction.TheVariants as C
-use Rattle.steps.specs.declared.Withdrawal.TheVariants as W
-use Rattle.steps.specs.Answers.{answer, no_point, no_change, reported_motion, reported_point, reported_change, opening_answer, prediction_answer, correction_answer, withdrawal_answer, NumberedOpening, NumberedPrediction, NumberedCorrection, NumberedWithdrawal}
+use Rattle.steps.specs.Answers.{answer, no_point, no_change, reported_motion, reported_point, reported_change, opening_answer, prediction_answer, correction_answer, withdrawal_answer, NumberedOpening, NumberedPrediction, NumberedCorrection, NumberedWithdrawal, Opening, Prediction, Withdrawal}
 use Rattle.steps.specs.Refusals.{open_refusal, predict_refusal, agrees, largest_change, correct_refusal, withdraw_refusal}
 use Rattle.steps.specs.Steps.{open_by, open_of, open_answer, predict_by, predict_of, predict_answer_by, predict_answer, judged, correct_by, correct_of, correct_answer_by, correct_answer, withdraw_by, withdraw_of, withdraw_answer}
+use Rattle.std.specs.Prelude.{Ok, Err}
 
 -- ---- the shape is one to one
 
 pub one-opening : (a b : Opening) → NumberedOpening a → NumberedOpening b → opening_answer a ≡ opening_answer b → a ≡ b
-one-opening O.Opened O.Opened f g e = refl
-one-opening O.Opened (O.Refused n) f g e = absurd (g (sym (ap (λ r. r.number) e)))
-one-opening (O.Refused m) O.Opened f g e = absurd (f (ap (λ r. r.number) e))
-one-opening (O.Refused m) (O.Refused n) f g e = ap O.Refused (ap (λ r. r.number) e)
+one-opening (Ok _) (Ok _) f g e = refl
+one-opening (Ok _) (Err n) f g e = absurd (g (sym (ap (λ r. r.number) e)))
+one-opening (Err m) (Ok _) f g e = absurd (f (ap (λ r. r.number) e))
+one-opening (Err m) (Err n) f g e = ap Err (ap (λ r. r.number) e)
 
 pub one-prediction : (a b : Prediction) → NumberedPrediction a → NumberedPrediction b → prediction_answer a ≡ prediction_answer b → a ≡ b
-one-prediction (P.Predicted q) (P.Predicted r) f g e = ap P.Predicted (ap (λ r. r.point) e)
-one-prediction (P.Predicted q) (P.Refused n) f g e = absurd (g (sym (ap (λ r. r.number) e)))
-one-prediction (P.Refused m) (P.Predicted r) f g e = absurd (f (ap (λ r. r.number) e))
-one-prediction (P.Refused m) (P.Refused n) f g e = ap P.Refused (ap (λ r. r.number) e)
+one-prediction (Ok q) (Ok r) f g e = ap Ok (ap (λ r. r.point) e)
+one-prediction (Ok q) (Err n) f g e = absurd (g (sym (ap (λ r. r.number) e)))
+one-prediction (Err m) (Ok r) f g e = absurd (f (ap (λ r. r.number) e))
+one-prediction (Err m) (Err n) f g e = ap Err (ap (λ r. r.number) e)
 
 -- the kind tells a correction's cases apart whatever the number
 pub one-correction : (a b : Correction) → correction_answer a ≡ correction_answer b → a ≡ b
@@ -55,10 +50,10 @@ one-correction (C.Refused m) (C.Again r d) e = absurd (omega (arith, ap (λ r. r
 one-correction (C.Refused m) (C.Refused n) e = ap C.Refused (ap (λ r. r.number) e)
 
 pub one-withdrawal : (a b : Withdrawal) → NumberedWithdrawal a → NumberedWithdrawal b → withdrawal_answer a ≡ withdrawal_answer b → a ≡ b
-one-withdrawal W.Withdrawn W.Withdrawn f g e = refl
-one-withdrawal W.Withdrawn (W.Refused n) f g e = absurd (g (sym (ap (λ r. r.number) e)))
-one-withdrawal (W.Refused m) W.Withdrawn f g e = absurd (f (ap (λ r. r.number) e))
-one-withdrawal (W.Refused m) (W.Refused n) f g e = ap W.Refused (ap (λ r. r.number) e)
+one-withdrawal (Ok _) (Ok _) f g e = refl
+one-withdrawal (Ok _) (Err n) f g e = absurd (g (sym (ap (λ r. r.number) e)))
+one-withdrawal (Err m) (Ok _) f g e = absurd (f (ap (λ r. r.number) e))
+one-withdrawal (Err m) (Err n) f g e = ap Err (ap (λ r. r.number) e)
 
 -- ---- zero, where an answer carries nothing: +0 as a float
 

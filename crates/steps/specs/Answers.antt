@@ -1,5 +1,5 @@
 -- The paper's number and values of every answer: zeros where an answer carries nothing. Definitions only.
-use Rattle.std.specs.Prelude.{ℕ, zero, suc}
+use Rattle.std.specs.Prelude.{ℕ, zero, suc, Result, Ok, Err}
 use Rattle.rules.specs.Rules.{NotZero}
 use Rattle.exact.specs.Report.{reported_of}
 use Rattle.axis.specs.declared.Motion.{Motion}
@@ -11,14 +11,9 @@ use Rattle.session.specs.Moves.{nowhere}
 use Rattle.steps.specs.declared.ReportedMotion.{ReportedMotion}
 use Rattle.steps.specs.declared.ReportedPoint.{ReportedPoint}
 use Rattle.steps.specs.declared.Answer.{Answer}
-use Rattle.steps.specs.declared.Opening.{Opening}
-use Rattle.steps.specs.declared.Prediction.{Prediction}
+use Rattle.steps.specs.declared.After.{After}
 use Rattle.steps.specs.declared.Correction.{Correction}
-use Rattle.steps.specs.declared.Withdrawal.{Withdrawal}
-use Rattle.steps.specs.declared.Opening.TheVariants as O
-use Rattle.steps.specs.declared.Prediction.TheVariants as P
 use Rattle.steps.specs.declared.Correction.TheVariants as C
-use Rattle.steps.specs.declared.Withdrawal.TheVariants as W
 
 -- ---- reports
 
@@ -38,6 +33,35 @@ no_point = reported_point nowhere
 unfoldable pub no_change : ReportedMotion
 no_change = reported_motion still
 
+-- ---- what a call answers, and the number that refuses it
+
+abbrev pub Opening : Type 0
+Opening = Result (Unit {0}) ℕ
+
+abbrev pub Prediction : Type 0
+Prediction = Result ReportedPoint ℕ
+
+abbrev pub Withdrawal : Type 0
+Withdrawal = Result (Unit {0}) ℕ
+
+-- the record as a call leaves it, beside the answer
+abbrev pub AfterOpen : Type 0
+AfterOpen = After Opening
+
+abbrev pub AfterPredict : Type 0
+AfterPredict = After Prediction
+
+abbrev pub AfterCorrect : Type 0
+AfterCorrect = After Correction
+
+abbrev pub AfterWithdraw : Type 0
+AfterWithdraw = After Withdrawal
+
+-- a value, unless a number refuses it
+abbrev pub unrefused : {A : Type 0} → ℕ → A → Result A ℕ
+unrefused zero value = Ok value
+unrefused (suc n) value = Err (suc n)
+
 -- ---- one shape for the answers of the four calls
 
 -- the kind tells an accepted point, 1, and one to be corrected again, 2, from all other answers, 0
@@ -54,12 +78,12 @@ abbrev pub refused : ℕ → Answer
 refused n = answer n 0 no_point no_change
 
 abbrev pub opening_answer : Opening → Answer
-opening_answer O.Opened = answer 0 0 no_point no_change
-opening_answer (O.Refused n) = refused n
+opening_answer (Ok _) = answer 0 0 no_point no_change
+opening_answer (Err n) = refused n
 
 abbrev pub prediction_answer : Prediction → Answer
-prediction_answer (P.Predicted q) = answer 0 0 q no_change
-prediction_answer (P.Refused n) = refused n
+prediction_answer (Ok q) = answer 0 0 q no_change
+prediction_answer (Err n) = refused n
 
 abbrev pub correction_answer : Correction → Answer
 correction_answer (C.Accepted q) = answer 0 1 q no_change
@@ -67,18 +91,18 @@ correction_answer (C.Again q c) = answer 0 2 q c
 correction_answer (C.Refused n) = refused n
 
 abbrev pub withdrawal_answer : Withdrawal → Answer
-withdrawal_answer W.Withdrawn = answer 0 0 no_point no_change
-withdrawal_answer (W.Refused n) = refused n
+withdrawal_answer (Ok _) = answer 0 0 no_point no_change
+withdrawal_answer (Err n) = refused n
 
 -- ---- a refusal's number is not 0
 
 abbrev pub NumberedOpening : Opening → Type 0
-NumberedOpening O.Opened = Unit {0}
-NumberedOpening (O.Refused n) = NotZero n
+NumberedOpening (Ok _) = Unit {0}
+NumberedOpening (Err n) = NotZero n
 
 abbrev pub NumberedPrediction : Prediction → Type 0
-NumberedPrediction (P.Predicted q) = Unit {0}
-NumberedPrediction (P.Refused n) = NotZero n
+NumberedPrediction (Ok q) = Unit {0}
+NumberedPrediction (Err n) = NotZero n
 
 abbrev pub NumberedCorrection : Correction → Type 0
 NumberedCorrection (C.Accepted q) = Unit {0}
@@ -86,5 +110,5 @@ NumberedCorrection (C.Again q c) = Unit {0}
 NumberedCorrection (C.Refused n) = NotZero n
 
 abbrev pub NumberedWithdrawal : Withdrawal → Type 0
-NumberedWithdrawal W.Withdrawn = Unit {0}
-NumberedWithdrawal (W.Refused n) = NotZero n
+NumberedWithdrawal (Ok _) = Unit {0}
+NumberedWithdrawal (Err n) = NotZero n

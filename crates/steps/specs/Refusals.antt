@@ -3,7 +3,7 @@ use Rattle.std.specs.Prelude.{ℕ, ◌+◌, ◌*◌, Bool, not, List, [], ◌∷
 use Rattle.integers.specs.Tests.{◌and◌}
 use Rattle.rules.specs.Rules.{first_of}
 use Rattle.ticks.specs.declared.Fault.{Fault}
-use Rattle.ticks.specs.declared.Fault.TheVariants.{Nothing, NotANumber, Infinite, TooLarge}
+use Rattle.ticks.specs.declared.Fault.TheVariants.{NotANumber, Infinite, TooLarge}
 use Rattle.ticks.specs.declared.Sample.{Sample}
 use Rattle.ticks.specs.Round.{is_not_a_number, is_infinite, is_too_large}
 use Rattle.ticks.specs.Samples.{any, axes_of, whole_of}
@@ -27,7 +27,6 @@ sample_rules xs =
 
 -- the same by what is wrong with the floats, as the code finds it
 abbrev pub fault_number : Fault → ℕ
-fault_number Nothing = 0
 fault_number NotANumber = 4
 fault_number Infinite = 13
 fault_number TooLarge = 5
@@ -84,6 +83,13 @@ point_rules s q =
 
 abbrev pub correct_rules : Session → Sample → List (Bool × ℕ)
 correct_rules s a = (not (awaiting s), 7) ∷ (sample_rules (axes_of a) ++ point_rules s (corrected_point s (whole_of a)))
+
+-- those that are looked at before the point is compared with the estimate: all but the last
+abbrev pub early_rules : Session → Sample → List (Bool × ℕ)
+early_rules s a = (not (awaiting s), 7) ∷ (sample_rules (axes_of a) ++ (not (point_in_range (corrected_point s (whole_of a))), 6) ∷ [])
+
+unfoldable pub early_refusal : Session → Sample → ℕ
+early_refusal s a = first_of (early_rules s a)
 
 unfoldable pub correct_refusal : Session → Sample → ℕ
 correct_refusal s a = first_of (correct_rules s a)

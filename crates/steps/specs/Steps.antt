@@ -1,21 +1,14 @@
 -- The four calls: the record and the answer that each gives, and that answer in the paper's shape. Definitions only.
-use Rattle.std.specs.Prelude.{ℕ, zero, suc, ◌+◌, Bool, true, false, cond, eqb}
+use Rattle.std.specs.Prelude.{ℕ, zero, suc, ◌+◌, Bool, true, false, cond, eqb, Ok, Err}
 use Rattle.ticks.specs.declared.Sample.{Sample}
 use Rattle.ticks.specs.declared.WholeSample.{WholeSample}
 use Rattle.ticks.specs.Samples.{whole_of}
 use Rattle.session.specs.declared.Point.{Point}
 use Rattle.session.specs.declared.Session.{Session}
 use Rattle.session.specs.Moves.{predicted_point, corrected_point, settled_again, awaiting_at, accepted_at, closed_session}
-use Rattle.steps.specs.declared.AfterOpen.{AfterOpen}
-use Rattle.steps.specs.declared.AfterPredict.{AfterPredict}
-use Rattle.steps.specs.declared.AfterCorrect.{AfterCorrect}
-use Rattle.steps.specs.declared.AfterWithdraw.{AfterWithdraw}
-use Rattle.steps.specs.declared.Opening.TheVariants as O
-use Rattle.steps.specs.declared.Prediction.TheVariants as P
 use Rattle.steps.specs.declared.Correction.TheVariants as C
-use Rattle.steps.specs.declared.Withdrawal.TheVariants as W
 use Rattle.steps.specs.declared.Answer.{Answer}
-use Rattle.steps.specs.Answers.{answer, unless, no_point, no_change, reported_point, reported_change}
+use Rattle.steps.specs.Answers.{AfterOpen, AfterPredict, AfterCorrect, AfterWithdraw, answer, unless, no_point, no_change, reported_point, reported_change}
 use Rattle.session.specs.Requests.{Request, exact_point}
 use Rattle.steps.specs.Opening.{opened_with}
 use Rattle.steps.specs.Refusals.{open_refusal, predict_refusal, correct_refusal, withdraw_refusal, agrees, largest_change}
@@ -23,8 +16,8 @@ use Rattle.steps.specs.Refusals.{open_refusal, predict_refusal, correct_refusal,
 -- ---- open: whatever the record held before
 
 abbrev pub open_by : ℕ → Request → AfterOpen
-open_by zero r = record { session = opened_with r.points r.tolerances r.limit (exact_point r.point) r.floats; answer = O.Opened }
-open_by (suc n) r = record { session = closed_session; answer = O.Refused (suc n) }
+open_by zero r = record { session = opened_with r.points r.tolerances r.limit (exact_point r.point) r.floats; answer = Ok tt }
+open_by (suc n) r = record { session = closed_session; answer = Err (suc n) }
 
 unfoldable pub open_of : Request → AfterOpen
 open_of r = open_by (open_refusal r) r
@@ -32,8 +25,8 @@ open_of r = open_by (open_refusal r) r
 -- ---- predict
 
 abbrev pub predict_by : ℕ → Session → AfterPredict
-predict_by zero s = record { session = awaiting_at s 0 (predicted_point s); answer = P.Predicted (reported_point (predicted_point s)) }
-predict_by (suc n) s = record { session = s; answer = P.Refused (suc n) }
+predict_by zero s = record { session = awaiting_at s 0 (predicted_point s); answer = Ok (reported_point (predicted_point s)) }
+predict_by (suc n) s = record { session = s; answer = Err (suc n) }
 
 unfoldable pub predict_of : Session → AfterPredict
 predict_of s = predict_by (predict_refusal s) s
@@ -56,8 +49,8 @@ correct_of s a = correct_by (correct_refusal s a) s (whole_of a)
 -- ---- withdraw
 
 abbrev pub withdraw_by : ℕ → Session → AfterWithdraw
-withdraw_by zero s = record { session = settled_again s; answer = W.Withdrawn }
-withdraw_by (suc n) s = record { session = s; answer = W.Refused (suc n) }
+withdraw_by zero s = record { session = settled_again s; answer = Ok tt }
+withdraw_by (suc n) s = record { session = s; answer = Err (suc n) }
 
 unfoldable pub withdraw_of : Session → AfterWithdraw
 withdraw_of s = withdraw_by (withdraw_refusal s) s

@@ -5,9 +5,8 @@ use Rattle.session.specs.declared.Point.{Point}
 use Rattle.session.specs.declared.Session.{Session}
 use Rattle.session.specs.Moves.{settled_again, awaiting_at}
 use Rattle.steps.specs.declared.ReportedPoint.{ReportedPoint}
-use Rattle.steps.specs.declared.AfterCorrect.{AfterCorrect}
 use Rattle.steps.specs.declared.Correction.TheVariants as C
-use Rattle.steps.specs.Answers.{reported_change}
+use Rattle.steps.specs.Answers.{AfterCorrect, reported_change}
 use Rattle.steps.specs.Refusals.{largest_change}
 
 abbrev pub unagreed : Bool → Session → Point → ReportedPoint → AfterCorrect

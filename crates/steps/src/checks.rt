@@ -1,17 +1,28 @@
-// What more than one call looks at: a sample's fault.
+// What refuses a sample, by its fault.
 ghost use Rattle.std.specs.Prelude.{◌≡◌};
-ghost use Rattle.steps.specs.Refusals.{fault_number};
+ghost use Rattle.rules.specs.Rules.{first_of};
+ghost use Rattle.ticks.specs.Samples.{axes_of, whole_of};
+ghost use Rattle.steps.specs.Answers.{unrefused};
+ghost use Rattle.steps.specs.Refusals.{fault_number, sample_rules};
 
-use ticks::Fault;
+use rules::{Reason, Refusal};
+use ticks::{Fault, Sample, WholeSample, round_sample};
 
-// The number that refuses a sample with a fault, and 0 for one without.
-pub fn fault_number(fault: Fault) -> u8
+// What refuses a sample with a fault: no `From`, which only the crate of one of the two types could declare.
+pub fn fault_number(fault: Fault) -> Refusal
     ensures { result ≡ fault_number fault }
 {
-    match fault {
-        Fault::Nothing => 0,
-        Fault::NotANumber => 4,
-        Fault::Infinite => 13,
-        Fault::TooLarge => 5,
-    }
+    let reason = match fault {
+        Fault::NotANumber => Reason::NotANumber,
+        Fault::Infinite => Reason::Infinite,
+        Fault::TooLarge => Reason::TooLarge,
+    };
+    reason.into()
+}
+
+// A sample's ticks, or what refuses it.
+pub(crate) fn whole_sample(a: Sample) -> Result<WholeSample, Refusal>
+    ensures { result ≡ unrefused (first_of (sample_rules (axes_of a))) (whole_of a) }
+{
+    round_sample(a).map_err(fault_number)
 }

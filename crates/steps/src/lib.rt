@@ -2,6 +2,7 @@
 #![tactic(auto)]
 
 use exact::Reported;
+use rules::Refusal;
 use session::Session;
 
 mod checks;
@@ -32,19 +33,7 @@ pub struct ReportedPoint {
     pub z: ReportedMotion,
 }
 
-#[derive(Clone, Copy)]
-pub enum Opening {
-    Opened,
-    Refused(u8),
-}
-
-#[derive(Clone, Copy)]
-pub enum Prediction {
-    Predicted(ReportedPoint),
-    Refused(u8),
-}
-
-// A point, an estimate and the largest change of each kind, or a refusal's number.
+// A point, an estimate and the largest change of each kind, or a refusal's number: the paper asks for these three cases (docs/FORMS.md).
 #[derive(Clone, Copy)]
 pub enum Correction {
     Accepted(ReportedPoint),
@@ -52,11 +41,12 @@ pub enum Correction {
     Refused(u8),
 }
 
-#[derive(Clone, Copy)]
-pub enum Withdrawal {
-    Withdrawn,
-    Refused(u8),
-}
+// Nothing or a point, or what refuses the call.
+pub type Opening = Result<(), Refusal>;
+
+pub type Prediction = Result<ReportedPoint, Refusal>;
+
+pub type Withdrawal = Result<(), Refusal>;
 
 // An answer in the paper's shape: its number, its kind (1 an accepted point, 2 one to be corrected again, 0 all other), a point and the largest
 // change of each kind, zeros where it carries nothing.
@@ -68,26 +58,17 @@ pub struct Answer {
     pub change: ReportedMotion,
 }
 
+// The record as a call leaves it, beside the answer.
 #[derive(Clone, Copy)]
-pub struct AfterOpen {
+pub struct After<A> {
     pub session: Session,
-    pub answer: Opening,
+    pub answer: A,
 }
 
-#[derive(Clone, Copy)]
-pub struct AfterPredict {
-    pub session: Session,
-    pub answer: Prediction,
-}
+pub type AfterOpen = After<Opening>;
 
-#[derive(Clone, Copy)]
-pub struct AfterCorrect {
-    pub session: Session,
-    pub answer: Correction,
-}
+pub type AfterPredict = After<Prediction>;
 
-#[derive(Clone, Copy)]
-pub struct AfterWithdraw {
-    pub session: Session,
-    pub answer: Withdrawal,
-}
+pub type AfterCorrect = After<Correction>;
+
+pub type AfterWithdraw = After<Withdrawal>;

@@ -1,15 +1,17 @@
 // Open: a session settled at point 0, whatever the record held before.
 ghost use Rattle.std.specs.Prelude.{◌≡◌, ◌*◌, ◌≤◌, ◌<◌, length};
 ghost use Rattle.axis.specs.Formulas.{places};
-ghost use Rattle.session.specs.Moves.{closed_session};
 ghost use Rattle.session.specs.Ready.{PlacedPoint};
-ghost use Rattle.session.specs.Requests.{request};
+ghost use Rattle.session.specs.Requests.{request, exact_point};
+ghost use Rattle.steps.specs.Answers.{unrefused};
 ghost use Rattle.steps.specs.Opening.{axis_samples, opened_with};
+ghost use Rattle.steps.specs.Refusals.{open_refusal};
 ghost use Rattle.steps.specs.Steps.{open_of};
 
 use crate::checks::fault_number;
-use crate::{AfterOpen, Opening};
+use crate::{After, AfterOpen};
 use axis::Tolerances;
+use rules::{Reason, Refusal};
 use session::{
     Point, Session, WholePoint, closed, exact_point, open_at, point_in_range, points_hold,
     settings_hold,
@@ -23,23 +25,11 @@ pub fn axis_samples(p: usize, k: usize, floats: &[f64]) -> [i64; 9]
     ensures { result ≡ places p (axis_samples p k floats.now) }
 {
     let mut out = [0i64; 9];
-    let mut i: usize = 0;
-    while i < p {
+    for i in 0..p {
         let at = 3 * (p - 1 - i) + k;
         out[i] = ticks::ticks_in(ticks::round_to_tick(floats[at]));
-        i += 1;
     }
     out
-}
-
-fn refuse_open(number: u8) -> AfterOpen
-    ensures { result ≡ record { session = closed_session; answer = Opening.Refused number } }
-{
-    let session = closed();
-    AfterOpen {
-        session,
-        answer: Opening::Refused(number),
-    }
 }
 
 // The arguments of an open that nothing refuses.
@@ -55,6 +45,35 @@ fn open_with(points: usize, tolerances: Tolerances, limit: u64, q: Point, floats
     open_at(points, tolerances, limit, q, xs, ys, zs)
 }
 
+// The session that is opened, or what refuses it.
+fn opened(
+    points: usize,
+    tolerances: Tolerances,
+    limit: u64,
+    point: WholePoint,
+    floats: &[f64],
+) -> Result<Session, Refusal>
+    ensures { result ≡ unrefused (open_refusal (request points tolerances limit point floats.now)) (opened_with points tolerances limit (exact_point point) floats.now) }
+{
+    if !points_hold(points) {
+        return Err(Reason::Points.into());
+    }
+    if floats.len() != 3 * points {
+        return Err(Reason::Length.into());
+    }
+    if !settings_hold(tolerances, limit) {
+        return Err(Reason::Settings.into());
+    }
+    let q = exact_point(point);
+    if !point_in_range(q) {
+        return Err(Reason::OutOfRange.into());
+    }
+    if let Some(fault) = ticks::fault_in(floats) {
+        return Err(fault_number(fault));
+    }
+    Ok(open_with(points, tolerances, limit, q, floats))
+}
+
 pub fn open_step(
     points: usize,
     tolerances: Tolerances,
@@ -64,26 +83,14 @@ pub fn open_step(
 ) -> AfterOpen
     ensures { result ≡ open_of (request points tolerances limit point floats.now) }
 {
-    if !points_hold(points) {
-        return refuse_open(1);
-    }
-    if floats.len() != 3 * points {
-        return refuse_open(2);
-    }
-    if !settings_hold(tolerances, limit) {
-        return refuse_open(3);
-    }
-    let q = exact_point(point);
-    if !point_in_range(q) {
-        return refuse_open(6);
-    }
-    let number = fault_number(ticks::fault_in(floats));
-    if number != 0 {
-        return refuse_open(number);
-    }
-    let session = open_with(points, tolerances, limit, q, floats);
-    AfterOpen {
-        session,
-        answer: Opening::Opened,
+    match opened(points, tolerances, limit, point, floats) {
+        Ok(session) => After {
+            session,
+            answer: Ok(()),
+        },
+        Err(refusal) => After {
+            session: closed(),
+            answer: Err(refusal),
+        },
     }
 }

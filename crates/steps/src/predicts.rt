@@ -1,19 +1,32 @@
 // Predict: the predicted point, which the session then awaits a correction of.
 ghost use Rattle.std.specs.Prelude.{◌≡◌, true};
 ghost use Rattle.session.specs.Holding.{settled};
+ghost use Rattle.session.specs.Moves.{predicted_point};
+ghost use Rattle.steps.specs.Refusals.{predict_refusal};
+ghost use Rattle.steps.specs.Answers.{unrefused};
 ghost use Rattle.steps.specs.Steps.{predict_of};
 
 use crate::reports::report_point;
-use crate::{AfterPredict, Prediction};
-use session::{Session, await_at, is_settled, point_in_range, predicted_point};
+use crate::{After, AfterPredict};
+use rules::{Reason, Refusal};
+use session::{Point, Session, await_at, is_settled, point_in_range, predicted_point};
 
-fn refuse_predict(s: Session, number: u8) -> AfterPredict
-    ensures { result ≡ record { session = s; answer = Prediction.Refused number } }
+// The point that is predicted, or what refuses it.
+fn predicted(ready: bool, s: Session) -> Result<Point, Refusal>
+    requires { ready ≡ settled s }
+    ensures { result ≡ unrefused (predict_refusal s) (predicted_point s) }
 {
-    AfterPredict {
-        session: s,
-        answer: Prediction::Refused(number),
+    if !ready {
+        return Err(Reason::WrongState.into());
     }
+    if 1_000_000 <= s.accepted {
+        return Err(Reason::Full.into());
+    }
+    let q = predicted_point(s);
+    if !point_in_range(q) {
+        return Err(Reason::OutOfRange.into());
+    }
+    Ok(q)
 }
 
 // A record of which it is known whether it is settled.
@@ -21,21 +34,15 @@ fn predict_if(ready: bool, s: Session) -> AfterPredict
     requires { ready ≡ settled s }
     ensures { result ≡ predict_of s }
 {
-    if !ready {
-        return refuse_predict(s, 7);
-    }
-    if 1_000_000 <= s.accepted {
-        return refuse_predict(s, 9);
-    }
-    let q = predicted_point(s);
-    if !point_in_range(q) {
-        return refuse_predict(s, 6);
-    }
-    let session = await_at(s, 0, q);
-    let point = report_point(q);
-    AfterPredict {
-        session,
-        answer: Prediction::Predicted(point),
+    match predicted(ready, s) {
+        Ok(q) => After {
+            session: await_at(s, 0, q),
+            answer: Ok(report_point(q)),
+        },
+        Err(refusal) => After {
+            session: s,
+            answer: Err(refusal),
+        },
     }
 }
 

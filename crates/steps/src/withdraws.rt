@@ -3,7 +3,8 @@ ghost use Rattle.std.specs.Prelude.{◌≡◌, true};
 ghost use Rattle.session.specs.Holding.{awaiting};
 ghost use Rattle.steps.specs.Steps.{withdraw_of};
 
-use crate::{AfterWithdraw, Withdrawal};
+use crate::{After, AfterWithdraw};
+use rules::Reason;
 use session::{Session, is_awaiting, settle};
 
 // A record that is known to await a correction.
@@ -11,10 +12,9 @@ pub fn withdraw_awaiting(s: Session) -> AfterWithdraw
     requires { awaiting s ≡ true }
     ensures { result ≡ withdraw_of s }
 {
-    let session = settle(s);
-    AfterWithdraw {
-        session,
-        answer: Withdrawal::Withdrawn,
+    After {
+        session: settle(s),
+        answer: Ok(()),
     }
 }
 
@@ -22,9 +22,9 @@ pub fn withdraw_step(s: Session) -> AfterWithdraw
     ensures { result ≡ withdraw_of s }
 {
     if !is_awaiting(s) {
-        return AfterWithdraw {
+        return After {
             session: s,
-            answer: Withdrawal::Refused(7),
+            answer: Err(Reason::WrongState.into()),
         };
     }
     withdraw_awaiting(s)

@@ -1,5 +1,5 @@
 -- A number that was printed and is read back is the same number, and reading accepts nothing but what printing writes: each number has one text.
-use Rattle.std.specs.Prelude.{◌≡◌, Bool, cond, List, [], ◌∷◌, ◌++◌, ltb, eqb, ℤ, length, take, drop, get_or}
+use Rattle.std.specs.Prelude.{Option, Some, None, ◌≡◌, Bool, cond, List, [], ◌∷◌, ◌++◌, ltb, eqb, ℤ, length, take, drop, get_or}
 use Rattle.std.proofs.Math.Path.{refl}
 use Rattle.std.proofs.Common.{sym, ◌∙◌, ap, ap₂, append-nil, add-zero, arith, add-one, length-take, drop_of_length-le, drop_at, drop-drop, drop-cons, get_or-drop, length-take-le, SFits}
 use Rattle.std.proofs.Math.Bool.{true, false}
@@ -8,9 +8,6 @@ use Rattle.std.proofs.Math.IntN.{pos, negsuc}
 use Rattle.std.specs.Int.{w64}
 use borrow.Author.Tests.{lt-ltb, ltb-true, eqb-true, ne_eqb}
 use Rattle.integers.specs.Parts.{integers}
-use Rattle.text.specs.declared.Unsigned.{Unsigned}
-use Rattle.text.specs.declared.Unsigned.TheVariants as U
-use Rattle.text.specs.declared.Signed.TheVariants as S
 use Rattle.text.specs.Places.{Wrote, Stands}
 use Rattle.text.proofs.Pieces.{up-to-end}
 use Rattle.text.specs.Numbers.{decimal, signed, hex, ascii}
@@ -28,29 +25,29 @@ stands {s} {at} {word} {end} p =
 
 -- ---- decimal
 
-pub decimal-back : (s : List ℕ) (at n end : ℕ) → n < 2 ^ 64 → Stands s at (decimal n) end → NoDigit (drop end s) → decimal_at s at ≡ U.Number n end
+pub decimal-back : (s : List ℕ) (at n end : ℕ) → n < 2 ^ 64 → Stands s at (decimal n) end → NoDigit (drop end s) → decimal_at s at ≡ Some (n, end)
 unfolding decimal_at
-decimal-back s at n end f p e = ap (λ t. decimal_in t at) p.holds ∙ D.reads (drop end s) n at f e ∙ ap (U.Number n) (sym p.ends)
+decimal-back s at n end f p e = ap (λ t. decimal_in t at) p.holds ∙ D.reads (drop end s) n at f e ∙ ap (λ k. Some (n, k)) (sym p.ends)
 
-pub decimal-only : (s : List ℕ) (at n end : ℕ) → decimal_at s at ≡ U.Number n end → Stands s at (decimal n) end × (n < 2 ^ 64)
+pub decimal-only : (s : List ℕ) (at n end : ℕ) → decimal_at s at ≡ Some (n, end) → Stands s at (decimal n) end × (n < 2 ^ 64)
 unfolding decimal_at
 decimal-only s at n end e = let (p, f) = D.only (drop at s) at n end e in (stands p, f)
 
 -- ---- hexadecimal
 
-pub hex-back : (s : List ℕ) (at n end : ℕ) → n < 2 ^ 64 → Stands s at (hex n) end → hex_at s at ≡ U.Number n end
+pub hex-back : (s : List ℕ) (at n end : ℕ) → n < 2 ^ 64 → Stands s at (hex n) end → hex_at s at ≡ Some (n, end)
 unfolding hex_at hex
 hex-back s at n end f p =
-    rw p.holds (H.reads (drop end s) n at f ∙ ap (U.Number n) (ap (λ k. at + k) (sym (length-hex_digits 16 n)) ∙ sym p.ends))
+    rw p.holds (H.reads (drop end s) n at f ∙ ap (λ k. Some (n, k)) (ap (λ k. at + k) (sym (length-hex_digits 16 n)) ∙ sym p.ends))
 
-pub hex-only : (s : List ℕ) (at n end : ℕ) → hex_at s at ≡ U.Number n end → Stands s at (hex n) end × (n < 2 ^ 64)
+pub hex-only : (s : List ℕ) (at n end : ℕ) → hex_at s at ≡ Some (n, end) → Stands s at (hex n) end × (n < 2 ^ 64)
 unfolding hex_at hex
 hex-only s at n end e = let (p, f) = H.only (drop at s) at n end e in (stands p, f)
 
 -- ---- signed
 
 -- a decimal number begins with no sign
-first_byte : (text : List ℕ) (at n end : ℕ) → decimal_in text at ≡ U.Number n end → get_or text 0 0 ≡ 45 → ⊥
+first_byte : (text : List ℕ) (at n end : ℕ) → decimal_in text at ≡ Some (n, end) → get_or text 0 0 ≡ 45 → ⊥
 unfolding decimal_in
 first_byte [] at n end e q = D.refuted e
 first_byte (b ∷ text) at n end e q = D.refuted (rw q at e)
@@ -59,7 +56,7 @@ first_byte (b ∷ text) at n end e q = D.refuted (rw q at e)
 at_place : (s : List ℕ) (at : ℕ) → get_or (drop at s) 0 0 ≡ get_or s at 0
 at_place s at = get_or-drop at s 0 0 ∙ ap (λ i. get_or s i 0) (add-zero at)
 
-pub no_sign : (s : List ℕ) (at n end : ℕ) → decimal_at s at ≡ U.Number n end → eqb (get_or s at 0) 45 ≡ false
+pub no_sign : (s : List ℕ) (at n end : ℕ) → decimal_at s at ≡ Some (n, end) → eqb (get_or s at 0) 45 ≡ false
 unfolding decimal_at
 no_sign s at n end e = ne_eqb (get_or s at 0) 45 (λ q. first_byte (drop at s) at n end e (at_place s at ∙ q))
 
@@ -79,7 +76,7 @@ module _ {s : List ℕ} {at : ℕ} {word : List ℕ} {end : ℕ} where
   pub with-sign : get_or s at 0 ≡ 45 → Stands s (at + 1) word end → Stands s at (45 ∷ word) end
   with-sign e p = record { ends = omega (arith, p.ends); holds = drop-cons s at 0 (inside s at e) ∙ rw (e, ← (add-one at)) (ap (λ t. 45 ∷ t) p.holds) }
 
-pub signed_back : (s : List ℕ) (at : ℕ) (z : ℤ) (end : ℕ) → SFits w64 z → Stands s at (signed z) end → NoDigit (drop end s) → signed_at s at ≡ S.Number z end
+pub signed_back : (s : List ℕ) (at : ℕ) (z : ℤ) (end : ℕ) → SFits w64 z → Stands s at (signed z) end → NoDigit (drop end s) → signed_at s at ≡ Some (z, end)
 unfolding signed_at signed not_below below ascii
 signed_back s at (pos n) end f p e =
     let d = decimal-back s at n end (omega integers) p e in
@@ -88,44 +85,42 @@ signed_back s at (negsuc n) end f p e =
     let d = decimal-back s (at + 1) (suc n) end (omega integers) (after-sign p) e in
     rw (sign p, d, lt-ltb n (2 ^ 63) (omega integers))
 
-none {ℓ} : {A : Type ℓ} {z : ℤ} {end : ℕ} → S.Nothing ≡ S.Number z end → A
+none {ℓ} : {A : Type ℓ} {z : ℤ} {end : ℕ} → ◌≡◌ {A = Option (ℤ × ℕ)} None (Some (z, end)) → A
 none e = absurd (let z : ◌≡◌ {A = ℕ} 0 1 = cc in omega arith)
 
 module _ (s : List ℕ) (at : ℕ) (z : ℤ) (end : ℕ) where
-  positive-by : (n next : ℕ) (t : Bool) → ltb n (2 ^ 63) ≡ t → decimal_at s at ≡ U.Number n next → cond t (S.Number (pos n) next) S.Nothing ≡ S.Number z end → Stands s at (signed z) end × SFits w64 z
+  positive-by : (n next : ℕ) (t : Bool) → ltb n (2 ^ 63) ≡ t → decimal_at s at ≡ Some (n, next) → cond {A = Option (ℤ × ℕ)} t (Some (pos n, next)) None ≡ Some (z, end) → Stands s at (signed z) end × SFits w64 z
   unfolding signed
   positive-by n next true t d e =
-      let x : pos n ≡ z = cc in
-      let y : next ≡ end = cc in
+      let (x, y) = D.parts e in
       let f : n < 2 ^ 63 = ltb-true n (2 ^ 63) t in
       rw (← x, ← y) ((decimal-only s at n next d).0, omega integers)
   positive-by n next false t d e = none e
 
-  positive-only : (u : Unsigned) → decimal_at s at ≡ u → not_below u ≡ S.Number z end → Stands s at (signed z) end × SFits w64 z
+  positive-only : (u : Option (ℕ × ℕ)) → decimal_at s at ≡ u → not_below u ≡ Some (z, end) → Stands s at (signed z) end × SFits w64 z
   unfolding not_below
-  positive-only U.Nothing d e = none e
-  positive-only (U.Number n next) d e = positive-by n next (ltb n (2 ^ 63)) refl d e
+  positive-only None d e = none e
+  positive-only (Some (n, next)) d e = positive-by n next (ltb n (2 ^ 63)) refl d e
 
-  negative-by : (n next : ℕ) (t : Bool) → ltb n (2 ^ 63) ≡ t → get_or s at 0 ≡ 45 → decimal_at s (at + 1) ≡ U.Number (suc n) next → cond t (S.Number (negsuc n) next) S.Nothing ≡ S.Number z end → Stands s at (signed z) end × SFits w64 z
+  negative-by : (n next : ℕ) (t : Bool) → ltb n (2 ^ 63) ≡ t → get_or s at 0 ≡ 45 → decimal_at s (at + 1) ≡ Some (suc n, next) → cond {A = Option (ℤ × ℕ)} t (Some (negsuc n, next)) None ≡ Some (z, end) → Stands s at (signed z) end × SFits w64 z
   unfolding signed ascii
   negative-by n next true t q d e =
-      let x : negsuc n ≡ z = cc in
-      let y : next ≡ end = cc in
+      let (x, y) = D.parts e in
       let f : n < 2 ^ 63 = ltb-true n (2 ^ 63) t in
       rw (← x, ← y) (with-sign q (decimal-only s (at + 1) (suc n) next d).0, omega integers)
   negative-by n next false t q d e = none e
 
-  negative-only : (u : Unsigned) → get_or s at 0 ≡ 45 → decimal_at s (at + 1) ≡ u → below u ≡ S.Number z end → Stands s at (signed z) end × SFits w64 z
+  negative-only : (u : Option (ℕ × ℕ)) → get_or s at 0 ≡ 45 → decimal_at s (at + 1) ≡ u → below u ≡ Some (z, end) → Stands s at (signed z) end × SFits w64 z
   unfolding below
-  negative-only U.Nothing q d e = none e
-  negative-only (U.Number zero next) q d e = none e
-  negative-only (U.Number (suc n) next) q d e = negative-by n next (ltb n (2 ^ 63)) refl q d e
+  negative-only None q d e = none e
+  negative-only (Some (zero, next)) q d e = none e
+  negative-only (Some (suc n, next)) q d e = negative-by n next (ltb n (2 ^ 63)) refl q d e
 
-  by_sign : (t : Bool) → eqb (get_or s at 0) 45 ≡ t → cond t (below (decimal_at s (at + 1))) (not_below (decimal_at s at)) ≡ S.Number z end → Stands s at (signed z) end × SFits w64 z
+  by_sign : (t : Bool) → eqb (get_or s at 0) 45 ≡ t → cond t (below (decimal_at s (at + 1))) (not_below (decimal_at s at)) ≡ Some (z, end) → Stands s at (signed z) end × SFits w64 z
   by_sign true t e = negative-only (decimal_at s (at + 1)) (eqb-true (get_or s at 0) 45 t) refl e
   by_sign false t e = positive-only (decimal_at s at) refl e
 
-  pub signed-only : signed_at s at ≡ S.Number z end → Stands s at (signed z) end × SFits w64 z
+  pub signed-only : signed_at s at ≡ Some (z, end) → Stands s at (signed z) end × SFits w64 z
   unfolding signed_at
   signed-only e = by_sign (eqb (get_or s at 0) 45) refl e
 
@@ -149,11 +144,11 @@ module _ {a : List ℕ} {at : ℕ} {word b : List ℕ} {end : ℕ} (w : Wrote a 
   no_more = rw past ended
 
 module _ {a b : List ℕ} {at end : ℕ} (h : at ≤ length a) where
-  pub decimal-printed : (n : ℕ) → n < 2 ^ 64 → Wrote a at (decimal n) b end → decimal_at (take end b) at ≡ U.Number n end
+  pub decimal-printed : (n : ℕ) → n < 2 ^ 64 → Wrote a at (decimal n) b end → decimal_at (take end b) at ≡ Some (n, end)
   decimal-printed n f w = decimal-back (take end b) at n end f (stands-there w h) (no_more w h)
 
-  pub signed-printed : (z : ℤ) → SFits w64 z → Wrote a at (signed z) b end → signed_at (take end b) at ≡ S.Number z end
+  pub signed-printed : (z : ℤ) → SFits w64 z → Wrote a at (signed z) b end → signed_at (take end b) at ≡ Some (z, end)
   signed-printed z f w = signed_back (take end b) at z end f (stands-there w h) (no_more w h)
 
-  pub hex-printed : (n : ℕ) → n < 2 ^ 64 → Wrote a at (hex n) b end → hex_at (take end b) at ≡ U.Number n end
+  pub hex-printed : (n : ℕ) → n < 2 ^ 64 → Wrote a at (hex n) b end → hex_at (take end b) at ≡ Some (n, end)
   hex-printed n f w = hex-back (take end b) at n end f (stands-there w h)

@@ -1,10 +1,8 @@
 -- Decimal digits printed and read back, byte by byte: the lemmas of `Back`.
-use Rattle.std.specs.Prelude.{◌≡◌, refl, Bool, true, false, cond, List, [], ◌∷◌, ◌++◌, ℕ, zero, suc, ◌+◌, ◌-◌, ◌*◌, ◌/◌, ◌%◌, ◌^◌, ◌<◌, ◌≤◌, ltb, eqb, length}
+use Rattle.std.specs.Prelude.{Option, unwrap_or, Some, None, ◌≡◌, refl, Bool, true, false, cond, List, [], ◌∷◌, ◌++◌, ℕ, zero, suc, ◌+◌, ◌-◌, ◌*◌, ◌/◌, ◌%◌, ◌^◌, ◌<◌, ◌≤◌, ltb, eqb, length}
 use Rattle.std.proofs.Common.{sym, ◌∙◌, ap, append_assoc, pow-suc, arith, length-append, lt-ltb, le-leb, ltb-true, ltb-false, leb-true, eqb-true, ne_eqb}
 use Rattle.std.proofs.lemmas.Bool.{eqb-false}
 use Rattle.integers.specs.Tests.{joined}
-use Rattle.text.specs.declared.Unsigned.{Unsigned}
-use Rattle.text.specs.declared.Unsigned.TheVariants.{Number, Nothing}
 use Rattle.text.specs.Numbers.{digit, decimal}
 use Rattle.text.specs.Reading.{is_digit, going_on, decimal_in}
 use Rattle.text.proofs.Digits.{decimal-small, decimal-more}
@@ -16,7 +14,7 @@ pub data NoDigit : List ℕ → Type 0 where
 
 -- ---- what was printed is read
 
-stops : (text : List ℕ) (n at : ℕ) → NoDigit text → going_on text n at ≡ Number n at
+stops : (text : List ℕ) (n at : ℕ) → NoDigit text → going_on text n at ≡ Some (n, at)
 unfolding going_on
 stops [] n at ended = refl
 stops (b ∷ text) n at (other e) = rw e
@@ -56,7 +54,7 @@ through zero at n b = λ p. absurd (omega arith)
 through (suc k) at n b = by_size at n (ltb n 10) refl (through k at (n / 10) (omega (arith, rw pow-suc at b)))
 
 -- the whole text of n, and then no digit
-pub reads : (rest : List ℕ) (n at : ℕ) → n < 2 ^ 64 → NoDigit rest → decimal_in (decimal n ++ rest) at ≡ Number n (at + length (decimal n))
+pub reads : (rest : List ℕ) (n at : ℕ) → n < 2 ^ 64 → NoDigit rest → decimal_in (decimal n ++ rest) at ≡ Some (n, at + length (decimal n))
 unfolding decimal_in
 reads rest zero at f e = rw (decimal-small 0 (omega arith))
 reads rest (suc n) at f e = through 20 at (suc n) (omega arith) (omega arith) f rest ∙ stops rest (suc n) _ e
@@ -87,22 +85,25 @@ moved {text} {b} {at} {n} {m} {end} p d f g =
       fits = g.fits;
     }
 
+-- one number at one place
+pub parts : {A : Type 0} {n m : A} {at end : ℕ} → ◌≡◌ {A = Option (A × ℕ)} (Some (n, at)) (Some (m, end)) → (n ≡ m) × (at ≡ end)
+parts {A} {n = n} {at = at} e = (ap (λ (o : Option (A × ℕ)). (unwrap_or o (n, at)).0) e, ap (λ (o : Option (A × ℕ)). (unwrap_or o (n, at)).1) e)
+
 -- no digit moves
-all_read : {text : List ℕ} {at n m end : ℕ} → n < 2 ^ 64 → Number n at ≡ Number m end → Begins text at n m end
+all_read : {text : List ℕ} {at n m end : ℕ} → n < 2 ^ 64 → ◌≡◌ {A = Option (ℕ × ℕ)} (Some (n, at)) (Some (m, end)) → Begins text at n m end
 all_read {text} {at} {n} {m} {end} f e =
-    let x : n ≡ m = cc in
-    let y : at ≡ end = cc in
+    let (x, y) = parts e in
     record { rest = text; holds = ap (λ k. decimal k ++ text) x; ends = omega (arith, ap (λ k. length (decimal k)) x); fits = omega arith }
 
-pub refuted {ℓ} : {A : Type ℓ} {m end : ℕ} → Nothing ≡ Number m end → A
+pub refuted {ℓ} : {A : Type ℓ} {m end : ℕ} → ◌≡◌ {A = Option (ℕ × ℕ)} None (Some (m, end)) → A
 refuted e = absurd (let z : ◌≡◌ {A = ℕ} 0 1 = cc in omega arith)
 
-by_tests : {text : List ℕ} {b at n m end : ℕ} (d t : Bool) → is_digit b ≡ d → ltb (n * 10 + (b - 48)) (2 ^ 64) ≡ t → 0 < n → n < 2 ^ 64 → (u : Unsigned) → (n * 10 + (b - 48) < 2 ^ 64 → u ≡ Number m end → Begins text (at + 1) (n * 10 + (b - 48)) m end) → cond d (cond t u Nothing) (Number n at) ≡ Number m end → Begins (b ∷ text) at n m end
+by_tests : {text : List ℕ} {b at n m end : ℕ} (d t : Bool) → is_digit b ≡ d → ltb (n * 10 + (b - 48)) (2 ^ 64) ≡ t → 0 < n → n < 2 ^ 64 → (u : Option (ℕ × ℕ)) → (n * 10 + (b - 48) < 2 ^ 64 → u ≡ Some (m, end) → Begins text (at + 1) (n * 10 + (b - 48)) m end) → cond d (cond t u None) (Some (n, at)) ≡ Some (m, end) → Begins (b ∷ text) at n m end
 by_tests {b = b} {n = n} true true d t p f u ih e = let h = ltb-true (n * 10 + (b - 48)) (2 ^ 64) t in moved p d h (ih h e)
 by_tests true false d t p f u ih e = refuted e
 by_tests false t d _ p f u ih e = all_read f e
 
-only-more : (text : List ℕ) (at n m end : ℕ) → 0 < n → n < 2 ^ 64 → going_on text n at ≡ Number m end → Begins text at n m end
+only-more : (text : List ℕ) (at n m end : ℕ) → 0 < n → n < 2 ^ 64 → going_on text n at ≡ Some (m, end) → Begins text at n m end
 unfolding going_on
 only-more [] at n m end p f e = all_read f e
 only-more (b ∷ text) at n m end p f e =
@@ -127,21 +128,20 @@ begun {text} {b} {at} {m} {end} d g =
     (record { rest = g.rest; holds = ap (λ ds. ds ++ text) (sym e) ∙ g.holds; ends = omega (arith, g.ends, ap length e) }, g.fits)
 
 -- 0 alone
-alone : {text : List ℕ} {b at m end : ℕ} → eqb b 48 ≡ true → Number 0 (at + 1) ≡ Number m end → Splits (b ∷ text) at (decimal m) end × (m < 2 ^ 64)
+alone : {text : List ℕ} {b at m end : ℕ} → eqb b 48 ≡ true → ◌≡◌ {A = Option (ℕ × ℕ)} (Some (0, at + 1)) (Some (m, end)) → Splits (b ∷ text) at (decimal m) end × (m < 2 ^ 64)
 alone {text} {b} {at} {m} {end} z e =
-    let x : 0 ≡ m = cc in
-    let y : at + 1 ≡ end = cc in
+    let (x, y) = parts e in
     let w : decimal m ≡ b ∷ [] = ap decimal (sym x) ∙ decimal-small 0 (omega arith) ∙ ap (λ k. k ∷ []) (sym (eqb-true b 48 z)) in
     (record { rest = text; holds = ap (λ ds. ds ++ text) (sym w); ends = omega (arith, ap length w) }, omega arith)
 
-first_by : {text : List ℕ} {b at m end : ℕ} (d z : Bool) → is_digit b ≡ d → eqb b 48 ≡ z → cond d (cond z (Number 0 (at + 1)) (going_on text (b - 48) (at + 1))) Nothing ≡ Number m end → Splits (b ∷ text) at (decimal m) end × (m < 2 ^ 64)
+first_by : {text : List ℕ} {b at m end : ℕ} (d z : Bool) → is_digit b ≡ d → eqb b 48 ≡ z → cond d (cond z (Some (0, at + 1)) (going_on text (b - 48) (at + 1))) None ≡ Some (m, end) → Splits (b ∷ text) at (decimal m) end × (m < 2 ^ 64)
 first_by true true d z e = alone z e
 first_by {text} {b} {at} {m} {end} true false d z e =
     let (l, u) = simp joined at d in
     begun d (only-more text (at + 1) (b - 48) m end (omega (arith, leb-true 48 b l, eqb-false b 48 z)) (omega (arith, leb-true b 57 u)) e)
 first_by false z d _ e = refuted e
 
-pub only : (text : List ℕ) (at m end : ℕ) → decimal_in text at ≡ Number m end → Splits text at (decimal m) end × (m < 2 ^ 64)
+pub only : (text : List ℕ) (at m end : ℕ) → decimal_in text at ≡ Some (m, end) → Splits text at (decimal m) end × (m < 2 ^ 64)
 unfolding decimal_in
 only [] at m end e = refuted e
 only (b ∷ text) at m end e = first_by (is_digit b) (eqb b 48) refl refl e

@@ -1,14 +1,12 @@
 -- Hexadecimal digits printed and read back, byte by byte: the lemmas of `Back`.
-use Rattle.std.specs.Prelude.{◌≡◌, refl, Bool, true, false, cond, List, [], ◌∷◌, ◌++◌, ℕ, zero, suc, ◌+◌, ◌-◌, ◌*◌, ◌/◌, ◌%◌, ◌^◌, ◌<◌, ltb, leb}
+use Rattle.std.specs.Prelude.{Option, Some, None, ◌≡◌, refl, Bool, true, false, cond, List, [], ◌∷◌, ◌++◌, ℕ, zero, suc, ◌+◌, ◌-◌, ◌*◌, ◌/◌, ◌%◌, ◌^◌, ◌<◌, ltb, leb}
 use Rattle.std.proofs.Common.{sym, ◌∙◌, ap, append_assoc, pow-suc, arith, lt-ltb, le-ltb, le-leb, ltb-true, ltb-false, leb-true}
 use Rattle.std.proofs.lemmas.Bool.{lt-leb}
 use Rattle.integers.specs.Tests.{◌and◌, joined}
-use Rattle.text.specs.declared.Unsigned.{Unsigned}
-use Rattle.text.specs.declared.Unsigned.TheVariants.{Number, Nothing}
 use Rattle.text.specs.Numbers.{hex_digit, hex_digits}
 use Rattle.text.specs.Reading.{hex_digit_of, hex_going_on}
 use Rattle.text.proofs.Digits.{length-hex_digits}
-use Rattle.text.proofs.DecimalBack.{Splits, refuted}
+use Rattle.text.proofs.DecimalBack.{Splits, parts, refuted}
 
 -- ---- one digit
 
@@ -65,7 +63,7 @@ through (suc k) n h j rest at =
     ∙ ap (λ i. hex_going_on j rest i (at + k + 1)) v
     ∙ ap (hex_going_on j rest n) w
 
-pub reads : (rest : List ℕ) (n at : ℕ) → n < 2 ^ 64 → hex_going_on 16 (hex_digits 16 n ++ rest) 0 at ≡ Number n (at + 16)
+pub reads : (rest : List ℕ) (n at : ℕ) → n < 2 ^ 64 → hex_going_on 16 (hex_digits 16 n ++ rest) 0 at ≡ Some (n, at + 16)
 unfolding hex_going_on
 reads rest n at h = through 16 n h 0 rest at
 
@@ -92,15 +90,14 @@ moved {text} {b} {at} {j} {m} {k} {n} {end} d g =
       fits = rw s at g.fits;
     }
 
-by-test : {text : List ℕ} {b at j m k n end : ℕ} (t : Bool) → ltb (hex_digit_of b) 16 ≡ t → (u : Unsigned) → (hex_digit_of b < 16 → u ≡ Number n end → Begins text (at + 1) (suc j) (m * 16 + hex_digit_of b) k n end) → cond t u Nothing ≡ Number n end → Begins (b ∷ text) at j m (suc k) n end
+by-test : {text : List ℕ} {b at j m k n end : ℕ} (t : Bool) → ltb (hex_digit_of b) 16 ≡ t → (u : Option (ℕ × ℕ)) → (hex_digit_of b < 16 → u ≡ Some (n, end) → Begins text (at + 1) (suc j) (m * 16 + hex_digit_of b) k n end) → cond t u None ≡ Some (n, end) → Begins (b ∷ text) at j m (suc k) n end
 by-test {b = b} true t u ih e = let d = ltb-true (hex_digit_of b) 16 t in moved d (ih d e)
 by-test false t u ih e = refuted e
 
-only-more : (k : ℕ) (text : List ℕ) (at j m n end : ℕ) → m < 16 ^ j → hex_going_on k text m at ≡ Number n end → Begins text at j m k n end
+only-more : (k : ℕ) (text : List ℕ) (at j m n end : ℕ) → m < 16 ^ j → hex_going_on k text m at ≡ Some (n, end) → Begins text at j m k n end
 unfolding hex_going_on
 only-more zero text at j m n end h e =
-    let x : m ≡ n = cc in
-    let y : at ≡ end = cc in
+    let (x, y) = parts e in
     let s : j + 0 ≡ j = omega arith in
     record { rest = text; holds = rw (s, x); ends = omega arith; fits = rw (s, ← x) h }
 only-more (suc k) [] at j m n end h e = refuted e
@@ -109,7 +106,7 @@ only-more (suc k) (b ∷ text) at j m n end h e =
     (λ d. only-more k text (at + 1) (suc j) (m * 16 + hex_digit_of b) n end (omega (arith, pow-suc 16 j)))
     e
 
-pub only : (text : List ℕ) (at n end : ℕ) → hex_going_on 16 text 0 at ≡ Number n end → Splits text at (hex_digits 16 n) end × (n < 2 ^ 64)
+pub only : (text : List ℕ) (at n end : ℕ) → hex_going_on 16 text 0 at ≡ Some (n, end) → Splits text at (hex_digits 16 n) end × (n < 2 ^ 64)
 unfolding hex_digits
 only text at n end e =
     let g = only-more 16 text at 0 0 n end (omega arith) e in

@@ -8,3 +8,4 @@ pub mod DecimalBack
 pub mod Digits
 pub mod HexBack
 pub mod Pieces
+pub mod Written

@@ -1,4 +1,5 @@
 -- A signed number as the machine has it: its size, its sign, and the text that they make.
+use Rattle.std.specs.Prelude.{Some, None}
 use mathlib.Core.Path.{◌≡◌, refl}
 use mathlib.Core.Bool.{true, false}
 use mathlib.Core.List.{List, ◌∷◌}
@@ -13,8 +14,6 @@ use mir.Syntax.{w64}
 use mir.Val.{SFits, Fits}
 use Rattle.integers.specs.Parts.{integers, parts-≡, difference-parts, nat_abs-parts, one-part}
 use Rattle.integers.specs.Size.{cast_fits}
-use Rattle.text.specs.declared.Unsigned.TheVariants as U
-use Rattle.text.specs.declared.Signed.TheVariants as S
 use Rattle.text.specs.Numbers.{signed, decimal, ascii}
 use Rattle.text.specs.Reading.{decimal_at, below, not_below, signed_at}
 use Rattle.text.proofs.Decimals.{nothing_left}
@@ -27,9 +26,6 @@ module _ (z : ℤ) (f : SFits w64 z) where
 
   pub turned-casts : lt_z z (pos 0) ≡ true → T (non_neg (negsuc 0 -ℤ z)) × Fits w64 (nat_abs (negsuc 0 -ℤ z))
   turned-casts t = cast_fits w64 (negsuc 0 -ℤ z) (omega (integers, difference-parts (negsuc 0) z)) (omega (integers, difference-parts (negsuc 0) z))
-
-  pub turned-size : lt_z z (pos 0) ≡ true → nat_abs (negsuc 0 -ℤ z) + 1 ≡ nat_abs z
-  turned-size t = omega (integers, difference-parts (negsuc 0) z, nat_abs-parts z, nat_abs-parts (negsuc 0 -ℤ z), one-part z, one-part (negsuc 0 -ℤ z))
 
   pub size_fits : nat_abs z < 2 ^ 64
   size_fits = omega (integers, nat_abs-parts z, one-part z)
@@ -51,15 +47,15 @@ positive-text (negsuc n) e = absurd (let z : ◌≡◌ {A = ℕ} 0 1 = cc in ome
 
 -- ---- from a size to a number
 
-pub below-nothing : below U.Nothing ≡ S.Nothing
+pub below-nothing : below None ≡ None
 unfolding below
 below-nothing = refl
 
-pub below-zero : (n next : ℕ) → n ≡ 0 → below (U.Number n next) ≡ S.Nothing
+pub below-zero : (n next : ℕ) → n ≡ 0 → below (Some (n, next)) ≡ None
 unfolding below
 below-zero n next e = rw e
 
-pub below-too-far : (n next : ℕ) → 2 ^ 63 < n → below (U.Number n next) ≡ S.Nothing
+pub below-too-far : (n next : ℕ) → 2 ^ 63 < n → below (Some (n, next)) ≡ None
 unfolding below
 below-too-far zero next h = absurd (omega arith)
 below-too-far (suc n) next h = rw (le-ltb n (2 ^ 63) (omega arith))
@@ -70,28 +66,28 @@ minus-one-less n = parts-≡ (omega (integers, difference-parts (negsuc 0) (pos 
 pub below-fits : (n : ℕ) → (n ≡ 0 → ⊥) → n ≤ 2 ^ 63 → SFits w64 (negsuc 0 -ℤ pos (n - 1))
 below-fits n f h = omega (integers, difference-parts (negsuc 0) (pos (n - 1)))
 
-pub below-number : (n next : ℕ) → (n ≡ 0 → ⊥) → n ≤ 2 ^ 63 → below (U.Number n next) ≡ S.Number (negsuc 0 -ℤ pos (n - 1)) next
+pub below-number : (n next : ℕ) → (n ≡ 0 → ⊥) → n ≤ 2 ^ 63 → below (Some (n, next)) ≡ Some (negsuc 0 -ℤ pos (n - 1), next)
 unfolding below
 below-number zero next f h = absurd (f refl)
 below-number (suc n) next f h =
     let e : suc n - 1 ≡ n = omega arith in
     rw (lt-ltb n (2 ^ 63) (omega arith), e, minus-one-less n)
 
-pub not_below-nothing : not_below U.Nothing ≡ S.Nothing
+pub not_below-nothing : not_below None ≡ None
 unfolding not_below
 not_below-nothing = refl
 
-pub not_below-too-far : (n next : ℕ) → 2 ^ 63 ≤ n → not_below (U.Number n next) ≡ S.Nothing
+pub not_below-too-far : (n next : ℕ) → 2 ^ 63 ≤ n → not_below (Some (n, next)) ≡ None
 unfolding not_below
 not_below-too-far n next h = rw (le-ltb n (2 ^ 63) h)
 
-pub not_below-number : (n next : ℕ) → n < 2 ^ 63 → not_below (U.Number n next) ≡ S.Number (pos n) next
+pub not_below-number : (n next : ℕ) → n < 2 ^ 63 → not_below (Some (n, next)) ≡ Some (pos n, next)
 unfolding not_below
 not_below-number n next h = rw (lt-ltb n (2 ^ 63) h)
 
 -- ---- a sign, or none, at a place
 
-pub past_the_end : (s : List ℕ) (at : ℕ) → length s ≤ at → signed_at s at ≡ S.Nothing
+pub past_the_end : (s : List ℕ) (at : ℕ) → length s ≤ at → signed_at s at ≡ None
 unfolding signed_at not_below
 past_the_end s at h = rw (get_or-eq_default s 0 h, nothing_left s at h)
 

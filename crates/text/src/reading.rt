@@ -1,142 +1,87 @@
-// Numbers read from a slice at a place.
-ghost use Rattle.std.specs.Prelude.{◌≡◌, ◌<◌, drop};
+// Numbers read from a slice at a place: each is answered with the place past it.
+ghost use Rattle.std.specs.Prelude.{◌≡◌, ◌<◌, ◌≤◌, drop, length, Some, SomeIff};
 ghost use Rattle.text.specs.Reading.{going_on, decimal_at, below, not_below, signed_at, hex_digit_of, hex_at};
 
-use crate::{Signed, Unsigned};
-
-fn wide(b: u8) -> u64
-    ensures { result ≡ b }
-{
-    b as u64
-}
-
 // A number so far, and the digits from a place on.
-fn read_more(s: &[u8], from: usize, first: u64) -> Unsigned
+fn read_more(s: &[u8], from: usize, first: u64) -> Option<(u64, usize)>
+    requires { from ≤ length s.now }
     ensures { result ≡ going_on (drop from s.now) first from }
 {
     let mut n = first;
-    let mut i = from;
-    while i < s.len() {
+    for i in from..s.len() {
         let b = s[i];
-        if b < 48 {
-            return Unsigned::Number(n, i);
+        if !b.is_ascii_digit() {
+            return Some((n, i));
         }
-        if 57 < b {
-            return Unsigned::Number(n, i);
-        }
-        if 1_844_674_407_370_955_161 < n {
-            return Unsigned::Nothing;
-        }
-        let d = wide(b) - 48;
-        if 18_446_744_073_709_551_615 - n * 10 < d {
-            return Unsigned::Nothing;
-        }
-        n = n * 10 + d;
-        i += 1;
+        n = n.checked_mul(10)?.checked_add(u64::from(b - b'0'))?;
     }
-    Unsigned::Number(n, i)
+    Some((n, s.len()))
 }
 
-pub fn read_decimal(s: &[u8], at: usize) -> Unsigned
+pub fn read_decimal(s: &[u8], at: usize) -> Option<(u64, usize)>
     ensures { result ≡ decimal_at s.now at }
 {
-    if s.len() <= at {
-        return Unsigned::Nothing;
+    let b = *s.get(at)?;
+    if b == b'0' {
+        return Some((0, at + 1));
     }
-    let b = s[at];
-    if b < 48 {
-        return Unsigned::Nothing;
+    if !b.is_ascii_digit() {
+        return None;
     }
-    if 57 < b {
-        return Unsigned::Nothing;
-    }
-    if b == 48 {
-        return Unsigned::Number(0, at + 1);
-    }
-    read_more(s, at + 1, wide(b) - 48)
+    read_more(s, at + 1, u64::from(b - b'0'))
 }
 
 // A size as a number below 0, which ends at a place.
-pub fn negative(n: u64, next: usize) -> Signed
-    ensures { result ≡ below (Unsigned.Number n next) }
+pub fn negative(n: u64, next: usize) -> Option<(i64, usize)>
+    ensures { result ≡ below (Some (n, next)) }
 {
-    if n == 0 {
-        return Signed::Nothing;
+    if n == 0 || 9_223_372_036_854_775_808 < n {
+        return None;
     }
-    if 9_223_372_036_854_775_808 < n {
-        return Signed::Nothing;
-    }
-    Signed::Number(-1 - (n - 1) as i64, next)
+    Some((-1 - (n - 1) as i64, next))
 }
 
 // A size as a number that is not below 0, which ends at a place.
-pub fn positive(n: u64, next: usize) -> Signed
-    ensures { result ≡ not_below (Unsigned.Number n next) }
+pub fn positive(n: u64, next: usize) -> Option<(i64, usize)>
+    ensures { result ≡ not_below (Some (n, next)) }
 {
-    if 9_223_372_036_854_775_807 < n {
-        return Signed::Nothing;
-    }
-    Signed::Number(n as i64, next)
+    let Ok(z) = i64::try_from(n) else {
+        return None;
+    };
+    Some((z, next))
 }
 
-pub fn read_signed(s: &[u8], at: usize) -> Signed
+pub fn read_signed(s: &[u8], at: usize) -> Option<(i64, usize)>
     ensures { result ≡ signed_at s.now at }
 {
-    if s.len() <= at {
-        return Signed::Nothing;
-    }
-    if s[at] == 45 {
-        let size = read_decimal(s, at + 1);
-        return match size {
-            Unsigned::Number(n, next) => negative(n, next),
-            Unsigned::Nothing => Signed::Nothing,
-        };
-    }
-    let size = read_decimal(s, at);
-    match size {
-        Unsigned::Number(n, next) => positive(n, next),
-        Unsigned::Nothing => Signed::Nothing,
+    let b = *s.get(at)?;
+    if b == b'-' {
+        let (n, next) = read_decimal(s, at + 1)?;
+        negative(n, next)
+    } else {
+        let (n, next) = read_decimal(s, at)?;
+        positive(n, next)
     }
 }
 
-// The digit that a byte is, and 16 for a byte that is none.
-fn hex_digit_of(b: u8) -> u64
-    ensures { result ≡ hex_digit_of b }
+// The digit that a byte is.
+fn hex_digit_of(b: u8) -> Option<u64>
+    ensures { SomeIff result (hex_digit_of b < 16) (hex_digit_of b) }
 {
-    if b < 48 {
-        return 16;
+    match b {
+        b'0'..=b'9' => Some(u64::from(b - b'0')),
+        b'a'..=b'f' => Some(u64::from(b - b'a') + 10),
+        _ => None,
     }
-    if b < 58 {
-        return wide(b) - 48;
-    }
-    if b < 97 {
-        return 16;
-    }
-    if b < 103 {
-        return wide(b) - 87;
-    }
-    16
 }
 
 // The 16 digits from a place on.
-pub fn read_hex(s: &[u8], at: usize) -> Unsigned
+pub fn read_hex(s: &[u8], at: usize) -> Option<(u64, usize)>
     ensures { result ≡ hex_at s.now at }
 {
-    if s.len() <= at {
-        return Unsigned::Nothing;
+    let mut n = 0;
+    for b in s.get(at..)?.get(..16)? {
+        n = n * 16 + hex_digit_of(*b)?;
     }
-    if s.len() - at < 16 {
-        return Unsigned::Nothing;
-    }
-    let mut n: u64 = 0;
-    let mut k: usize = 0;
-    while k < 16 {
-        let d = hex_digit_of(s[at + k]);
-        if 15 < d {
-            return Unsigned::Nothing;
-        }
-        n = n * 16 + d;
-        k += 1;
-    }
-    Unsigned::Number(n, at + k)
+    Some((n, at + 16))
 }

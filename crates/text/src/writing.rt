@@ -1,38 +1,104 @@
-// Bytes written into a lent buffer. Each function writes at a place and answers the place past what it wrote.
-ghost use Rattle.std.specs.Prelude.{◌≡◌, [], ◌∷◌, ◌+◌, ◌≤◌, ◌<◌, nat_abs, length, take};
+// Bytes written into a lent buffer, one after the other.
+ghost use Rattle.std.specs.Prelude.{◌≡◌, [], ◌∷◌, ◌≤◌, ◌<◌, nat_abs};
 ghost use Rattle.text.specs.Numbers.{decimal, signed, numbers, hex_digit, hex_digits, hex};
-ghost use Rattle.text.specs.Places.{Wrote};
+ghost use Rattle.text.specs.Writes.{Begins, Fits, Writes};
 
-pub fn put(out: &mut [u8], at: usize, b: u8) -> usize
-    requires { at < length out.old }
-    ensures { Wrote out.old at (b ∷ []) out.new result }
-{
-    out[at] = b;
-    at + 1
+// A lent buffer, and the place where the next byte goes.
+#[derive(Drop)]
+pub struct Writer<'a> {
+    out: &'a mut [u8],
+    at: usize,
 }
 
-pub fn put_word(out: &mut [u8], at: usize, word: &[u8]) -> usize
-    requires { at + length word.now ≤ length out.old }
-    ensures { Wrote out.old at word.now out.new result }
-{
-    let mut end = at;
-    let mut i = 0;
-    while i < word.len() {
-        end = put(out, end, word[i]);
-        i += 1;
+impl<'a> Writer<'a> {
+    // At the start of a buffer.
+    pub fn new(out: &'a mut [u8]) -> Writer<'a>
+        ensures { Begins out.entry 0 result }
+    {
+        Writer { out, at: 0 }
     }
-    end
-}
 
-pub fn put_decimal(out: &mut [u8], at: usize, n: u64) -> usize
-    requires { at + length (decimal n) ≤ length out.old }
-    ensures { Wrote out.old at (decimal n) out.new result }
-{
-    if n < 10 {
-        put(out, at, b'0' + n as u8)
-    } else {
-        let next = put_decimal(out, at, n / 10);
-        put(out, next, b'0' + (n % 10) as u8)
+    // Past what a buffer holds already.
+    pub fn at(out: &'a mut [u8], at: usize) -> Writer<'a>
+        ensures { Begins out.entry at result }
+    {
+        Writer { out, at }
+    }
+
+    // The place past what was written.
+    pub fn place(&self) -> usize
+        ensures { result ≡ self.now.at }
+    {
+        self.at
+    }
+
+    pub fn put(&mut self, b: u8)
+        requires { Fits self.old (b ∷ []) }
+        ensures { Writes self.old (b ∷ []) self.new }
+    {
+        let Writer { out, at } = self;
+        out[*at] = b;
+        *at += 1;
+    }
+
+    pub fn put_word(&mut self, word: &[u8])
+        requires { Fits self.old word.now }
+        ensures { Writes self.old word.now self.new }
+    {
+        for b in word {
+            self.put(*b);
+        }
+    }
+
+    pub fn put_decimal(&mut self, n: u64)
+        requires { Fits self.old (decimal n) }
+        ensures { Writes self.old (decimal n) self.new }
+    {
+        if n < 10 {
+            self.put(b'0' + n as u8);
+        } else {
+            self.put_decimal(n / 10);
+            self.put(b'0' + (n % 10) as u8);
+        }
+    }
+
+    pub fn put_signed(&mut self, z: i64)
+        requires { Fits self.old (signed z) }
+        ensures { Writes self.old (signed z) self.new }
+    {
+        if z < 0 {
+            self.put(b'-');
+        }
+        self.put_decimal(z.unsigned_abs());
+    }
+
+    // Each number, after a space.
+    pub fn put_numbers(&mut self, row: &[i64])
+        requires { Fits self.old (numbers row.now) }
+        ensures { Writes self.old (numbers row.now) self.new }
+    {
+        for z in row {
+            self.put(b' ');
+            self.put_signed(*z);
+        }
+    }
+
+    // The last k hexadecimal digits.
+    fn put_hex_digits(&mut self, k: usize, n: u64)
+        requires { Fits self.old (hex_digits k n) }
+        ensures { Writes self.old (hex_digits k n) self.new }
+    {
+        if 0 < k {
+            self.put_hex_digits(k - 1, n / 16);
+            self.put(hex_digit(n % 16));
+        }
+    }
+
+    pub fn put_hex(&mut self, n: u64)
+        requires { Fits self.old (hex n) }
+        ensures { Writes self.old (hex n) self.new }
+    {
+        self.put_hex_digits(16, n);
     }
 }
 
@@ -40,59 +106,16 @@ pub fn put_decimal(out: &mut [u8], at: usize, n: u64) -> usize
 pub fn size(z: i64) -> u64
     ensures { result ≡ nat_abs z }
 {
-    if z < 0 { (-1 - z) as u64 + 1 } else { z as u64 }
-}
-
-pub fn put_signed(out: &mut [u8], at: usize, z: i64) -> usize
-    requires { at + length (signed z) ≤ length out.old }
-    ensures { Wrote out.old at (signed z) out.new result }
-{
-    if z < 0 {
-        let next = put(out, at, b'-');
-        put_decimal(out, next, size(z))
-    } else {
-        put_decimal(out, at, size(z))
-    }
-}
-
-// Each of the first p numbers, after a space.
-pub fn put_numbers(out: &mut [u8], at: usize, row: [i64; 9], p: usize) -> usize
-    requires p_bound { p ≤ 9 }
-    requires row_in_bounds { at + length (numbers (take p row)) ≤ length out.old }
-    ensures { Wrote out.old at (numbers (take p row)) out.new result }
-{
-    let mut end = at;
-    let mut k = 0;
-    while k < p {
-        end = put(out, end, b' ');
-        end = put_signed(out, end, row[k]);
-        k += 1;
-    }
-    end
+    z.unsigned_abs()
 }
 
 fn hex_digit(d: u64) -> u8
     requires { d < 16 }
     ensures { result ≡ hex_digit d }
 {
-    if d < 10 { b'0' + d as u8 } else { 87 + d as u8 }
-}
-
-// The last k hexadecimal digits.
-fn put_hex_digits(out: &mut [u8], at: usize, k: usize, n: u64) -> usize
-    requires { at + k ≤ length out.old }
-    ensures { Wrote out.old at (hex_digits k n) out.new result }
-{
-    if k == 0 {
-        return at;
+    if d < 10 {
+        b'0' + d as u8
+    } else {
+        b'a' + (d as u8 - 10)
     }
-    let next = put_hex_digits(out, at, k - 1, n / 16);
-    put(out, next, hex_digit(n % 16))
-}
-
-pub fn put_hex(out: &mut [u8], at: usize, n: u64) -> usize
-    requires { at + 16 ≤ length out.old }
-    ensures { Wrote out.old at (hex n) out.new result }
-{
-    put_hex_digits(out, at, 16, n)
 }

@@ -1,31 +1,25 @@
--- Faults one by one, as the code meets them: the worst of them is what is wrong with all.
-use Rattle.std.specs.Prelude.{ℕ, cond, ltb}
-use Rattle.ticks.specs.declared.Rounded.{Rounded}
-use Rattle.ticks.specs.declared.Rounded.TheVariants as R
-use Rattle.ticks.specs.declared.RoundedSample.{RoundedSample}
+-- Faults one by one: the worst of them is what is wrong with all.
+use Rattle.std.specs.Prelude.{ℕ, ℤ, cond, ltb, Option, Some, None, Result}
+use Rattle.std.specs.Result.{result_err}
+use Rattle.ticks.specs.declared.WholeSample.{WholeSample}
 use Rattle.ticks.specs.declared.Fault.{Fault}
-use Rattle.ticks.specs.declared.Fault.TheVariants.{Nothing, NotANumber, Infinite, TooLarge}
+use Rattle.ticks.specs.declared.Fault.TheVariants.{TooLarge, Infinite, NotANumber}
 use Rattle.ticks.specs.Round.{ticks_in}
+use Rattle.ticks.specs.Samples.{sample_with}
 
-abbrev pub fault_of : Rounded → Fault
-fault_of (R.Ticks n) = Nothing
-fault_of R.NotANumber = NotANumber
-fault_of R.Infinite = Infinite
-fault_of R.TooLarge = TooLarge
+abbrev pub fault_of : Result ℤ Fault → Option Fault
+fault_of r = result_err r
 
-abbrev pub rank : Fault → ℕ
-rank Nothing = 0
-rank TooLarge = 1
-rank Infinite = 2
-rank NotANumber = 3
+abbrev pub rank : Option Fault → ℕ
+rank None = 0
+rank (Some TooLarge) = 1
+rank (Some Infinite) = 2
+rank (Some NotANumber) = 3
 
 -- the one of higher rank
-abbrev pub worse : Fault → Fault → Fault
+abbrev pub worse : Option Fault → Option Fault → Option Fault
 worse a b = cond (ltb (rank a) (rank b)) b a
 
-abbrev pub gathered : Rounded → Rounded → Rounded → RoundedSample
+abbrev pub gathered : Result ℤ Fault → Result ℤ Fault → Result ℤ Fault → Result WholeSample Fault
 gathered x y z =
-    record {
-      fault = worse (fault_of x) (worse (fault_of y) (fault_of z));
-      ticks = record { x = ticks_in x; y = ticks_in y; z = ticks_in z };
-    }
+    sample_with (worse (fault_of x) (worse (fault_of y) (fault_of z))) (record { x = ticks_in x; y = ticks_in y; z = ticks_in z })

@@ -2,78 +2,44 @@
 ghost use Rattle.std.specs.Prelude.{◌≡◌};
 ghost use Rattle.ticks.specs.Round.{ticks_in};
 ghost use Rattle.ticks.specs.Samples.{fault_in, sample_of};
-ghost use Rattle.ticks.specs.Faults.{fault_of, rank, worse, gathered};
+ghost use Rattle.ticks.specs.Faults.{gathered};
 
 use crate::rounding::round_to_tick;
-use crate::{Fault, Rounded, RoundedSample, Sample, WholeSample};
-
-// Nothing where there are ticks.
-fn fault_of(r: Rounded) -> Fault
-    ensures { result ≡ fault_of r }
-{
-    match r {
-        Rounded::Ticks(_) => Fault::Nothing,
-        Rounded::NotANumber => Fault::NotANumber,
-        Rounded::Infinite => Fault::Infinite,
-        Rounded::TooLarge => Fault::TooLarge,
-    }
-}
-
-fn rank(f: Fault) -> u8
-    ensures { result ≡ rank f }
-{
-    match f {
-        Fault::Nothing => 0,
-        Fault::TooLarge => 1,
-        Fault::Infinite => 2,
-        Fault::NotANumber => 3,
-    }
-}
-
-fn worse(a: Fault, b: Fault) -> Fault
-    ensures { result ≡ worse a b }
-{
-    if rank(a) < rank(b) { b } else { a }
-}
+use crate::{Fault, Sample, WholeSample};
 
 // Zero where there are none.
-pub fn ticks_in(r: Rounded) -> i64
+pub fn ticks_in(r: Result<i64, Fault>) -> i64
     ensures { result ≡ ticks_in r }
 {
-    match r {
-        Rounded::Ticks(t) => t,
-        Rounded::NotANumber => 0,
-        Rounded::Infinite => 0,
-        Rounded::TooLarge => 0,
-    }
+    r.unwrap_or(0)
 }
 
-// What is wrong with the floats.
-pub fn fault_in(xs: &[f64]) -> Fault
+// The worst fault of the floats.
+pub fn fault_in(xs: &[f64]) -> Option<Fault>
     ensures { result ≡ fault_in xs.now }
 {
-    let mut worst = Fault::Nothing;
-    let mut i: usize = 0;
-    while i < xs.len() {
-        worst = worse(worst, fault_of(round_to_tick(xs[i])));
-        i += 1;
-    }
-    worst
+    xs.iter().filter_map(|x| round_to_tick(*x).err()).max()
 }
 
-fn gather(x: Rounded, y: Rounded, z: Rounded) -> RoundedSample
+// The worst fault of the three, or their ticks.
+fn gather(
+    x: Result<i64, Fault>,
+    y: Result<i64, Fault>,
+    z: Result<i64, Fault>,
+) -> Result<WholeSample, Fault>
     ensures { result ≡ gathered x y z }
 {
-    let fault = worse(fault_of(x), worse(fault_of(y), fault_of(z)));
-    let ticks = WholeSample {
-        x: ticks_in(x),
-        y: ticks_in(y),
-        z: ticks_in(z),
-    };
-    RoundedSample { fault, ticks }
+    match x.err().max(y.err().max(z.err())) {
+        Some(fault) => Err(fault),
+        None => Ok(WholeSample {
+            x: ticks_in(x),
+            y: ticks_in(y),
+            z: ticks_in(z),
+        }),
+    }
 }
 
-pub fn round_sample(s: Sample) -> RoundedSample
+pub fn round_sample(s: Sample) -> Result<WholeSample, Fault>
     ensures { result ≡ sample_of s }
 {
     gather(round_to_tick(s.x), round_to_tick(s.y), round_to_tick(s.z))

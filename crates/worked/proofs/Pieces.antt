@@ -16,10 +16,10 @@ use Rattle.steps.specs.Refusals.{sample_rules, is_last}
 use Rattle.epoch_session.specs.declared.Round.{Round}
 use Rattle.epoch_session.specs.Rounds.{round_in_range, rounds_agree, largest_move}
 use Rattle.epoch_session.specs.Records.{held_round, starting, opened_round}
-use Rattle.epoch_steps.specs.declared.AfterRound.{AfterRound}
 use Rattle.epoch_steps.specs.declared.Outcome.TheVariants.{More, Opened}
 use Rattle.epoch_steps.specs.Refusals.{first_round, start_refusal, later_round, refine_refusal}
 use Rattle.epoch_steps.specs.Steps.{told, starting_from, start_by, start_of, judged_round, refine_by, refine_of}
+use Rattle.epoch_steps.specs.Answers.{AfterRound}
 
 -- ---- a first round
 

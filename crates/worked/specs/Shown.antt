@@ -20,9 +20,8 @@ use Rattle.steps.specs.declared.Answer.{Answer}
 use Rattle.steps.specs.Answers.{opening_answer, prediction_answer, correction_answer, withdrawal_answer}
 use Rattle.steps.specs.Steps.{open_of, predict_of, correct_of, withdraw_of}
 use Rattle.epoch_session.specs.declared.Round.{Round}
-use Rattle.epoch_steps.specs.declared.AfterRound.{AfterRound}
 use Rattle.epoch_steps.specs.declared.RoundValues.{RoundValues}
-use Rattle.epoch_steps.specs.Answers.{round_answer}
+use Rattle.epoch_steps.specs.Answers.{round_answer, AfterRound}
 use Rattle.epoch_steps.specs.Steps.{start_of, refine_of}
 
 -- ---- values

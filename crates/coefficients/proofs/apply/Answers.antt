@@ -1,6 +1,5 @@
 -- `coefficients::apply` meets its contract: the row is light enough for `combine`, and comes to what the differences come to.
 use mathlib.Core.Path.{◌∙◌, ap}
-use borrow.Author.Rules.{rules}
 use lib.ListN.{take}
 use mir.Syntax.{w64}
 use mir.ValLaws.{to_z-of_z}
@@ -10,8 +9,8 @@ use Rattle.coefficients.proofs.Bounds.{bounded}
 use Rattle.coefficients.proofs.Rows.{length-weights, used-law}
 use Rattle.coefficients.proofs.apply.Goals as goal
 
-pub combine-requires : goal.combine-requires
-combine-requires c = record { row_bound = rw c.weights.ensures (bounded c.args.which c.args.p c.requires.le_p); n_bound = search rules; small = c.requires.small }
+pub combine-requires-clause-row_bound : goal.combine-requires-clause-row_bound
+combine-requires-clause-row_bound c = rw c.weights.ensures (bounded c.args.which c.args.p c.requires.le_p)
 
 pub returns : goal.returns
 returns c =

@@ -7,22 +7,22 @@ use Rattle.coefficients.proofs.combine.Goals as goal
 
 pub loop-i-init : goal.loop-i-init
 unfolding by_samples
-loop-i-init c = (search rules, refl)
+loop-i-init c = refl
 
 pub overflow_mul-sum : goal.overflow_mul-sum
 overflow_mul-sum c =
     let e : length c.args.row ≡ 9 = search rules in
-    let t = turn c.args.row c.args.samples c.args.skip _ c.requires.row_bound c.requires.small (omega arith) c.loop-i.invariant.1 in
+    let t = turn c.args.row c.args.samples c.args.skip _ c.requires.row_bound c.requires.small (omega arith) c.loop-i.invariant in
     rw (to_z-of_z w64 _ t.weight, to_z-of_z w64 _ t.sample) t.product
 
 pub overflow_add-sum-in-loop-i : goal.overflow_add-sum-in-loop-i
 overflow_add-sum-in-loop-i c =
     let e : length c.args.row ≡ 9 = search rules in
-    let t = turn c.args.row c.args.samples c.args.skip _ c.requires.row_bound c.requires.small (omega arith) c.loop-i.invariant.1 in
+    let t = turn c.args.row c.args.samples c.args.skip _ c.requires.row_bound c.requires.small (omega arith) c.loop-i.invariant in
     rw (to_z-of_z w64 _ t.weight, to_z-of_z w64 _ t.sample, to_z-of_z w64 _ t.product) t.summed
 
 pub loop-i-preserved : goal.loop-i-preserved
 loop-i-preserved c =
     let e : length c.args.row ≡ 9 = search rules in
-    let t = turn c.args.row c.args.samples c.args.skip _ c.requires.row_bound c.requires.small (omega arith) c.loop-i.invariant.1 in
-    (omega arith, rw (add-one, to_z-of_z w64 _ t.weight, to_z-of_z w64 _ t.sample, to_z-of_z w64 _ t.product, to_z-of_z w64 _ t.summed) t.next)
+    let t = turn c.args.row c.args.samples c.args.skip _ c.requires.row_bound c.requires.small (omega arith) c.loop-i.invariant in
+    rw (add-one, to_z-of_z w64 _ t.weight, to_z-of_z w64 _ t.sample, to_z-of_z w64 _ t.product, to_z-of_z w64 _ t.summed) t.next

@@ -1,6 +1,6 @@
 -- `coefficients::older_part` meets its contract: with a 0 in front the first weight gives nothing.
 use mathlib.Core.Path.{◌∙◌, ap}
-use borrow.Author.Rules.{rules, sfits_of}
+use borrow.Author.Rules.{sfits_of}
 use Prim.Native.Nat.{◌-◌}
 use lib.ListN.{take, drop}
 use mir.Syntax.{w64}
@@ -10,8 +10,8 @@ use Rattle.coefficients.proofs.Bounds.{bounded}
 use Rattle.coefficients.proofs.Next.{older-used}
 use Rattle.coefficients.proofs.older_part.Goals as goal
 
-pub combine-requires : goal.combine-requires
-combine-requires c = record { row_bound = rw c.weights.ensures (bounded c.args.which c.args.p c.requires.le_p); n_bound = search rules; small = c.requires.small }
+pub combine-requires-clause-row_bound : goal.combine-requires-clause-row_bound
+combine-requires-clause-row_bound c = rw c.weights.ensures (bounded c.args.which c.args.p c.requires.le_p)
 
 pub returns : goal.returns
 returns c =

@@ -32,7 +32,13 @@ made f p a ws h small e =
     }
 
 pub overflow_mul-result : goal.overflow_mul-result
-overflow_mul-result c = let m = (let it : Made (at c.weights-row.result 0) c.args.sample (own_part c.args.which c.args.p c.args.sample) = made c.args.which c.args.p c.args.sample _ c.requires.le_p c.requires.sample_bound c.weights-row.ensures in it) in rw (to_z-of_z m.weight, to_z-of_z c.ranges.sample) m.product
+overflow_mul-result c =
+    let a = c.args in
+    let m : Made (at c.weights.result 0) a.sample (own_part a.which a.p a.sample) = made a.which a.p a.sample _ c.requires.le_p c.requires.sample_bound c.weights.ensures in
+    rw (to_z-of_z m.weight, to_z-of_z c.ranges.sample) m.product
 
 pub returns : goal.returns
-returns c = let m = (let it : Made (at c.weights-row.result 0) c.args.sample (own_part c.args.which c.args.p c.args.sample) = made c.args.which c.args.p c.args.sample _ c.requires.le_p c.requires.sample_bound c.weights-row.ensures in it) in simp (to_z-of_z m.weight, to_z-of_z c.ranges.sample, to_z-of_z m.product) m.is
+returns c =
+    let a = c.args in
+    let m : Made (at c.weights.result 0) a.sample (own_part a.which a.p a.sample) = made a.which a.p a.sample _ c.requires.le_p c.requires.sample_bound c.weights.ensures in
+    simp (to_z-of_z m.weight, to_z-of_z c.ranges.sample, to_z-of_z m.product) m.is

@@ -1,35 +1,7 @@
 -- `coefficients::weights` meets its contract: the arm for k takes the row at k - 1 of the formula's square, and p is k.
-use lib.Dec.{lit≤}
 use borrow.Author.Rules.{rules}
 use Rattle.coefficients.proofs.Rows.{numbered, ninth}
 use Rattle.coefficients.proofs.weights.Goals as goal
-
-pub bounds-square-0 : goal.bounds-square-0
-bounds-square-0 c = lit≤ tt
-
-pub bounds-square-1 : goal.bounds-square-1
-bounds-square-1 c = lit≤ tt
-
-pub bounds-square-2 : goal.bounds-square-2
-bounds-square-2 c = lit≤ tt
-
-pub bounds-square-3 : goal.bounds-square-3
-bounds-square-3 c = lit≤ tt
-
-pub bounds-square-4 : goal.bounds-square-4
-bounds-square-4 c = lit≤ tt
-
-pub bounds-square-5 : goal.bounds-square-5
-bounds-square-5 c = lit≤ tt
-
-pub bounds-square-6 : goal.bounds-square-6
-bounds-square-6 c = lit≤ tt
-
-pub bounds-square-7 : goal.bounds-square-7
-bounds-square-7 c = lit≤ tt
-
-pub bounds-square-8 : goal.bounds-square-8
-bounds-square-8 c = lit≤ tt
 
 pub returns-in-1 : goal.returns-in-1
 returns-in-1 c = numbered c.args.which 1 c.square-square.ensures c.requires c.in-1.is

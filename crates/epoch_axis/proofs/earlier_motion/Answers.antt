@@ -1,11 +1,15 @@
 -- `epoch_axis::earlier_motion` meets its contract: the sums run back, and the two series.
 use mathlib.Core.Path.{◌≡◌, ◌∙◌, ap}
-use Prim.Native.Nat.{◌^◌, ◌≤◌}
+use Prim.Native.Nat.{ℕ, ◌^◌, ◌≤◌}
 use native.Mathlib.Omega.{arith}
 use borrow.Author.Rules.{sfits_of}
 use lib.Dec.{lit≤}
-use lib.IntN.{◌+ℤ◌}
+use lib.IntN.{◌+ℤ◌, ◌-ℤ◌}
+use Rattle.axis.specs.declared.Axis.{Axis}
+use Rattle.axis.specs.Ready.{Ready}
+use Rattle.epoch_axis.specs.declared.Sums.{Sums}
 use Rattle.integers.specs.Differences.{at, by_differences}
+use Rattle.exact.specs.declared.Exact.{Exact}
 use Rattle.exact.specs.Numerator.{exact_of, numerator, Bounded}
 use Rattle.exact.proofs.Bounds.{wider, widen, difference-bounded}
 use Rattle.epoch_coefficients.specs.Formulas.{earlier_position, earlier_velocity}
@@ -15,19 +19,30 @@ use Rattle.epoch_axis.specs.Formulas.{run_back, newest_sums, earlier_motion}
 use Rattle.epoch_axis.proofs.Room.{Room, at_first, run-back-room}
 use Rattle.epoch_axis.proofs.earlier_motion.Goals as goal
 
+-- the axis before it is run back, and run back
+start : (p : ℕ) (a : Axis) {before : Exact} → Ready p a → before ≡ exact_of (numerator a.second -ℤ numerator a.first) → Bounded (2 ^ 55) before
+start p a {before} r e = difference-bounded (2 ^ 54) (2 ^ 42) (2 ^ 55) a.second a.first before r.second r.first (lit≤ tt) e
+
+room : (p : ℕ) (a : Axis) (j : ℕ) {before : Exact} {sums : Sums} → Ready p a → j ≤ 8 → before ≡ exact_of (numerator a.second -ℤ numerator a.first) → sums ≡ run_back (at a.samples) j (record { first = a.first; before = before }) → Room (2 ^ 42) (2 ^ 55) j sums
+room p a j r h e f = rw f (run-back-room (2 ^ 42) (2 ^ 55) (at a.samples) r.small.small j h (at_first (2 ^ 42) (2 ^ 55) 0 r.first (start p a r e)))
+
 pub subtract-before-requires : goal.subtract-before-requires
 subtract-before-requires c = let r = c.requires.ready in record { bounded = widen (2 ^ 62) r.second tt; bounded_2 = widen (2 ^ 62) r.first tt }
 
 pub run_back-sums-requires : goal.run_back-sums-requires
 run_back-sums-requires c =
     let r = c.requires.ready in
-    record { j_bound = (let it : c.args.j ≤ 8 = omega (arith, at-most-9 c.requires.p_value) in it); bounded = r.first; bounded_2 = (let it : Bounded (2 ^ 55) c.subtract-before.result = let r = c.requires.ready in difference-bounded (2 ^ 54) (2 ^ 42) (2 ^ 55) c.args.a.second c.args.a.first c.subtract-before.result r.second r.first (lit≤ tt) c.subtract-before.ensures in it); small = r.small }
+    record { j_bound = omega (arith, at-most-9 c.requires.p_value); bounded = r.first; bounded_2 = start c.args.p c.args.a r c.subtract-before.ensures; small = r.small }
 
 pub moved-position-requires : goal.moved-position-requires
-moved-position-requires c = wider _ (2 ^ 61) _ ((let it : Room (2 ^ 42) (2 ^ 55) c.args.j c.run_back-sums.result = let r = c.requires.ready in rw c.run_back-sums.ensures (run-back-room (2 ^ 42) (2 ^ 55) (at c.args.a.samples) r.small.small c.args.j ((let it : c.args.j ≤ 8 = omega (arith, at-most-9 c.requires.p_value) in it)) (at_first (2 ^ 42) (2 ^ 55) 0 r.first ((let it : Bounded (2 ^ 55) c.subtract-before.result = let r = c.requires.ready in difference-bounded (2 ^ 54) (2 ^ 42) (2 ^ 55) c.args.a.second c.args.a.first c.subtract-before.result r.second r.first (lit≤ tt) c.subtract-before.ensures in it)))) in it)).before (omega (arith, (let it : c.args.j ≤ 8 = omega (arith, at-most-9 c.requires.p_value) in it)))
+moved-position-requires c =
+    let h : c.args.j ≤ 8 = omega (arith, at-most-9 c.requires.p_value) in
+    wider _ (2 ^ 61) _ (room c.args.p c.args.a c.args.j c.requires.ready h c.subtract-before.ensures c.run_back-sums.ensures).before (omega arith)
 
 pub moved-velocity-requires : goal.moved-velocity-requires
-moved-velocity-requires c = wider _ (2 ^ 61) _ ((let it : Room (2 ^ 42) (2 ^ 55) c.args.j c.run_back-sums.result = let r = c.requires.ready in rw c.run_back-sums.ensures (run-back-room (2 ^ 42) (2 ^ 55) (at c.args.a.samples) r.small.small c.args.j ((let it : c.args.j ≤ 8 = omega (arith, at-most-9 c.requires.p_value) in it)) (at_first (2 ^ 42) (2 ^ 55) 0 r.first ((let it : Bounded (2 ^ 55) c.subtract-before.result = let r = c.requires.ready in difference-bounded (2 ^ 54) (2 ^ 42) (2 ^ 55) c.args.a.second c.args.a.first c.subtract-before.result r.second r.first (lit≤ tt) c.subtract-before.ensures in it)))) in it)).first (omega (arith, (let it : c.args.j ≤ 8 = omega (arith, at-most-9 c.requires.p_value) in it)))
+moved-velocity-requires c =
+    let h : c.args.j ≤ 8 = omega (arith, at-most-9 c.requires.p_value) in
+    wider _ (2 ^ 61) _ (room c.args.p c.args.a c.args.j c.requires.ready h c.subtract-before.ensures c.run_back-sums.ensures).first (omega arith)
 
 pub returns : goal.returns
 unfolding earlier_motion newest_sums

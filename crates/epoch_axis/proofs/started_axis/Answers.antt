@@ -20,7 +20,9 @@ run_on-sums-requires c =
 pub add-second-requires : goal.add-second-requires
 add-second-requires c =
     let r = newest-room c.args.p c.args.epoch c.args.samples c.requires.p_value c.requires.placed c.requires.small in
-    rw ((let it : let a = c.args in c.run_on-sums.result ≡ run_on (at a.samples) (centre a.p) (centre_sums a.p a.epoch a.samples) = let a = c.args in c.run_on-sums.ensures ∙ ap (run_on (at a.samples) (centre a.p)) c.centre_sums.ensures in it)) (record { bounded = widen (2 ^ 62) r.before tt; bounded_2 = widen (2 ^ 62) r.first tt })
+    let a = c.args in
+    let e : c.run_on-sums.result ≡ run_on (at a.samples) (centre a.p) (centre_sums a.p a.epoch a.samples) = c.run_on-sums.ensures ∙ ap (run_on (at a.samples) (centre a.p)) c.centre_sums.ensures in
+    rw e (record { bounded = widen (2 ^ 62) r.before tt; bounded_2 = widen (2 ^ 62) r.first tt })
 
 pub older_motion-older-requires : goal.older_motion-older-requires
 older_motion-older-requires c = record { le_p = (omega (arith, at-least-3 c.requires.p_value), at-most-9 c.requires.p_value); small = c.requires.small }
@@ -28,7 +30,8 @@ older_motion-older-requires c = record { le_p = (omega (arith, at-least-3 c.requ
 pub returns : goal.returns
 unfolding started_axis
 returns c =
-    let e = (let it : let a = c.args in c.run_on-sums.result ≡ run_on (at a.samples) (centre a.p) (centre_sums a.p a.epoch a.samples) = let a = c.args in c.run_on-sums.ensures ∙ ap (run_on (at a.samples) (centre a.p)) c.centre_sums.ensures in it) in
+    let a = c.args in
+    let e : c.run_on-sums.result ≡ run_on (at a.samples) (centre a.p) (centre_sums a.p a.epoch a.samples) = c.run_on-sums.ensures ∙ ap (run_on (at a.samples) (centre a.p)) c.centre_sums.ensures in
     let second = c.add-second.ensures ∙ ap (λ s. exact_of (numerator s.before +ℤ numerator s.first)) e in
     c.axis_with.ensures ∙ (λ i. axis_with (e i).first (second i) (c.older_motion-older.ensures i) c.args.samples (c.no_motion.ensures i))
 

@@ -1,7 +1,6 @@
 -- `stepper::correct` meets its contract: the step's result, taken apart, and what its answer is in the paper's shape.
 use Rattle.std.proofs.Common.{ap, ◌∙◌}
-use Rattle.steps.specs.Answers.{correction_answer}
-use Rattle.steps.specs.declared.AfterCorrect.{AfterCorrect}
+use Rattle.steps.specs.Answers.{correction_answer, AfterCorrect}
 use Rattle.steps.proofs.Answers.{correct-answers}
 use Rattle.stepper.proofs.correct.Goals as goal
 

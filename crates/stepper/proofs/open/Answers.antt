@@ -1,8 +1,7 @@
 -- `stepper::open` meets its contract: the step's result, taken apart, and what its answer is in the paper's shape.
 use Rattle.std.proofs.Common.{ap, ◌∙◌}
 use Rattle.session.specs.Requests.{request}
-use Rattle.steps.specs.Answers.{opening_answer}
-use Rattle.steps.specs.declared.AfterOpen.{AfterOpen}
+use Rattle.steps.specs.Answers.{opening_answer, AfterOpen}
 use Rattle.steps.proofs.Answers.{open-answers}
 use Rattle.stepper.proofs.open.Goals as goal
 

@@ -1,7 +1,6 @@
 -- `stepper::predict` meets its contract: the step's result, taken apart, and what its answer is in the paper's shape.
 use Rattle.std.proofs.Common.{ap, ◌∙◌}
-use Rattle.steps.specs.Answers.{prediction_answer}
-use Rattle.steps.specs.declared.AfterPredict.{AfterPredict}
+use Rattle.steps.specs.Answers.{prediction_answer, AfterPredict}
 use Rattle.steps.proofs.Answers.{predict-answers}
 use Rattle.stepper.proofs.predict.Goals as goal
 

@@ -1,7 +1,6 @@
 -- `stepper::refine` meets its contract: the step's result, taken apart, and what its answer is in the paper's shape.
 use Rattle.std.proofs.Common.{ap, ◌∙◌}
-use Rattle.epoch_steps.specs.Answers.{round_answer}
-use Rattle.epoch_steps.specs.declared.AfterRound.{AfterRound}
+use Rattle.epoch_steps.specs.Answers.{round_answer, AfterRound}
 use Rattle.epoch_steps.proofs.Answered.{refine-answers}
 use Rattle.stepper.proofs.refine.Goals as goal
 

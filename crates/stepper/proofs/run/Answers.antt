@@ -1,9 +1,9 @@
 -- `stepper::run` meets its contract: the step's result, taken apart, and the allowance that every run keeps to.
 use Rattle.std.proofs.Common.{ap, sym, subst}
-use Rattle.running.specs.declared.AfterRun.{AfterRun}
 use Rattle.running.specs.Bound.{WithinAllowance}
 use Rattle.running.proofs.Bound.{within-allowance}
 use Rattle.stepper.proofs.run.Goals as goal
+use Rattle.running.specs.Runs.{AfterRun}
 
 pub returns : goal.returns
 returns c =

@@ -1,8 +1,7 @@
 -- `stepper::start` meets its contract: the step's result, taken apart, and what its answer is in the paper's shape.
 use Rattle.std.proofs.Common.{ap, ◌∙◌}
 use Rattle.session.specs.Requests.{request}
-use Rattle.epoch_steps.specs.Answers.{round_answer}
-use Rattle.epoch_steps.specs.declared.AfterRound.{AfterRound}
+use Rattle.epoch_steps.specs.Answers.{round_answer, AfterRound}
 use Rattle.epoch_steps.proofs.Answered.{start-answers}
 use Rattle.stepper.proofs.start.Goals as goal
 

@@ -1,7 +1,6 @@
 -- `stepper::withdraw` meets its contract: the step's result, taken apart, and what its answer is in the paper's shape.
 use Rattle.std.proofs.Common.{ap, ◌∙◌}
-use Rattle.steps.specs.Answers.{withdrawal_answer}
-use Rattle.steps.specs.declared.AfterWithdraw.{AfterWithdraw}
+use Rattle.steps.specs.Answers.{withdrawal_answer, AfterWithdraw}
 use Rattle.steps.proofs.Answers.{withdraw-answers}
 use Rattle.stepper.proofs.withdraw.Goals as goal
 

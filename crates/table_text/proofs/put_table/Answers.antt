@@ -2,36 +2,33 @@
 use native.Mathlib.Omega.{arith}
 use borrow.Author.Rules.{rules}
 use Rattle.text.specs.Numbers.{ascii}
-use Rattle.text.proofs.Pieces.{piece, last, has_room}
+use Rattle.text.proofs.Written.{piece, last}
+use Rattle.text.proofs.Pieces.{has_room}
 use Rattle.table_text.specs.Text.{table}
 use Rattle.table_text.proofs.put_table.Goals as goal
 
 pub returns : goal.returns
 unfolding table ascii
 returns c =
-    piece _ c.put_heading-a.ensures
-    (piece _ c.put_line-b.ensures (piece _ c.put_line-c.ensures (piece _ c.put_line-d.ensures (last c.put_line.ensures))))
+    piece _ c.put_heading.ensures
+    (piece _ c.put_line.ensures (piece _ c.put_line-2.ensures (piece _ c.put_line-3.ensures (last c.put_line-4.ensures))))
 
-pub put_heading-a-requires : goal.put_heading-a-requires
+pub put_heading-requires : goal.put_heading-requires
 unfolding table ascii
-put_heading-a-requires c = has_room (omega (arith, c.requires.room.fits))
-
-pub put_line-b-requires : goal.put_line-b-requires
-unfolding table ascii
-put_line-b-requires c = record { le_p = c.requires.le_p; room = has_room (omega (arith, c.requires.room.fits, c.put_heading-a.ensures.ends, c.put_heading-a.ensures.long)) }
-
-pub put_line-c-requires : goal.put_line-c-requires
-unfolding table ascii
-put_line-c-requires c = record { le_p = c.requires.le_p; room = has_room (omega (arith, c.requires.room.fits, c.put_heading-a.ensures.ends, c.put_heading-a.ensures.long, c.put_line-b.ensures.ends, c.put_line-b.ensures.long)) }
-
-pub put_line-d-requires : goal.put_line-d-requires
-unfolding table ascii
-put_line-d-requires c = record { le_p = c.requires.le_p; room = has_room (omega (arith, c.requires.room.fits, c.put_heading-a.ensures.ends, c.put_heading-a.ensures.long, c.put_line-b.ensures.ends, c.put_line-b.ensures.long, c.put_line-c.ensures.ends, c.put_line-c.ensures.long)) }
+put_heading-requires c = has_room (omega (arith, c.requires.room.fits))
 
 pub put_line-requires : goal.put_line-requires
 unfolding table ascii
-put_line-requires c = record { le_p = c.requires.le_p; room = has_room (omega (arith, c.requires.room.fits, c.put_heading-a.ensures.ends, c.put_heading-a.ensures.long, c.put_line-b.ensures.ends, c.put_line-b.ensures.long, c.put_line-c.ensures.ends, c.put_line-c.ensures.long, c.put_line-d.ensures.ends, c.put_line-d.ensures.long)) }
+put_line-requires c = record { le_p = c.requires.le_p; room = has_room (omega (arith, c.requires.room.fits, c.put_heading.ensures.wrote.ends, c.put_heading.ensures.wrote.long)) }
 
-pub shape_of-out : goal.shape_of-out
+pub put_line-requires-2 : goal.put_line-requires-2
 unfolding table ascii
-shape_of-out c = search rules
+put_line-requires-2 c = record { le_p = c.requires.le_p; room = has_room (omega (arith, c.requires.room.fits, c.put_heading.ensures.wrote.ends, c.put_heading.ensures.wrote.long, c.put_line.ensures.wrote.ends, c.put_line.ensures.wrote.long)) }
+
+pub put_line-requires-3 : goal.put_line-requires-3
+unfolding table ascii
+put_line-requires-3 c = record { le_p = c.requires.le_p; room = has_room (omega (arith, c.requires.room.fits, c.put_heading.ensures.wrote.ends, c.put_heading.ensures.wrote.long, c.put_line.ensures.wrote.ends, c.put_line.ensures.wrote.long, c.put_line-2.ensures.wrote.ends, c.put_line-2.ensures.wrote.long)) }
+
+pub put_line-requires-4 : goal.put_line-requires-4
+unfolding table ascii
+put_line-requires-4 c = record { le_p = c.requires.le_p; room = has_room (omega (arith, c.requires.room.fits, c.put_heading.ensures.wrote.ends, c.put_heading.ensures.wrote.long, c.put_line.ensures.wrote.ends, c.put_line.ensures.wrote.long, c.put_line-2.ensures.wrote.ends, c.put_line-2.ensures.wrote.long, c.put_line-3.ensures.wrote.ends, c.put_line-3.ensures.wrote.long)) }

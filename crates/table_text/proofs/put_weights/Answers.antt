@@ -16,9 +16,8 @@ unfolding weights_text
 text f p h e = ap (λ ws. numbers (take p ws)) e ∙ ap numbers (take_row (weights_of f) p (length-weights f p h))
 
 pub put_numbers-requires : goal.put_numbers-requires
-put_numbers-requires c =
-    record { p_bound = c.requires.le_p.1; row_in_bounds = rw (text c.args.which c.args.p c.requires.le_p.1 c.weights.ensures) c.requires.p_in_bounds }
+put_numbers-requires c = rw (text c.args.which c.args.p c.requires.le_p.1 c.weights-row.ensures) c.requires.p_in_bounds
 
 pub returns : goal.returns
 returns c =
-    rw (text c.args.which c.args.p c.requires.le_p.1 c.weights.ensures) at c.put_numbers.ensures
+    rw (text c.args.which c.args.p c.requires.le_p.1 c.weights-row.ensures) at c.put_numbers.ensures

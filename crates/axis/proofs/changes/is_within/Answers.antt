@@ -1,6 +1,6 @@
 -- `axis::changes::is_within` meets its contract: the size of the change is compared with the tolerance.
 use mathlib.Core.Path.{◌≡◌, refl, ap, ◌∙◌}
-use Prim.Native.Nat.{ℕ, ◌*◌, ◌^◌, ◌<◌}
+use Prim.Native.Nat.{ℕ, ◌*◌, ◌<◌}
 use native.Mathlib.Omega.{arith}
 use borrow.Author.Rules.{rules}
 use lib.Dec.{leb, lit<}
@@ -11,15 +11,11 @@ use mir.ValLaws.{to_z_pos}
 use Rattle.exact.specs.declared.Exact.{Exact}
 use Rattle.exact.specs.Numerator.{D, numerator, exact_of, wholly}
 use Rattle.exact.proofs.Laws.{part-below, numerator-exact_of, numerator-wholly}
-use Rattle.exact.proofs.Bounds.{widen}
 use Rattle.axis.specs.Kinds.{apart_by}
 use Rattle.axis.proofs.changes.is_within.Goals as goal
 
 compared : (n t : ℕ) {e f : Exact} → e ≡ exact_of (pos n) → f ≡ wholly (pos t) → le_z (numerator e) (numerator f) ≡ leb n (t * D)
 compared n t p q = rw (p, q, numerator-exact_of (pos n), numerator-wholly (pos t)) refl
-
-pub apart-moved-requires : goal.apart-moved-requires
-apart-moved-requires c = record { bounded = widen (2 ^ 62) c.requires.bounded tt; bounded_2 = widen (2 ^ 62) c.requires.bounded_2 tt }
 
 pub at_most-requires : goal.at_most-requires
 at_most-requires c =

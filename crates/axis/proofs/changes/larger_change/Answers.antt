@@ -5,9 +5,3 @@ use Rattle.axis.proofs.changes.larger_change.Goals as goal
 pub returns : goal.returns
 unfolding larger_motion
 returns c = λ i. record { position = c.larger-position.ensures i; velocity = c.larger-velocity.ensures i }
-
-pub larger-position-requires : goal.larger-position-requires
-larger-position-requires c = (c.requires.proper.position, c.requires.proper_2.position)
-
-pub larger-velocity-requires : goal.larger-velocity-requires
-larger-velocity-requires c = (c.requires.proper.velocity, c.requires.proper_2.velocity)

@@ -1,13 +1,13 @@
 -- `axis::estimates::in_range` meets its contract: the two tests.
-use Rattle.integers.specs.Tests.{stop, go_on}
+use Rattle.std.proofs.Common.{sym, ◌∙◌}
+use Rattle.integers.specs.Tests.{and_no, and_yes}
 use Rattle.axis.specs.Estimates.{in_range}
-use Rattle.std.proofs.lemmas.Bool.{not_from_false, not_from_true}
 use Rattle.axis.proofs.estimates.in_range.Goals as goal
 
-pub returns-then-not-is_position : goal.returns-then-not-is_position
+pub returns-then-is_position : goal.returns-then-is_position
 unfolding in_range
-returns-then-not-is_position c = stop _ c.is_position.ensures (not_from_false _ c.if-not-is_position.true)
+returns-then-is_position c = and_yes (sym c.is_position.ensures ∙ c.if-is_position.true) c.is_velocity.ensures
 
-pub returns : goal.returns
+pub returns-else-is_position : goal.returns-else-is_position
 unfolding in_range
-returns c = go_on c.is_position.ensures (not_from_true _ c.if-not-is_position.false) c.is_velocity.ensures
+returns-else-is_position c = c.if-is_position.false ∙ and_no _ (sym c.is_position.ensures ∙ c.if-is_position.false)

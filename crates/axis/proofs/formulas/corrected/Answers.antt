@@ -12,9 +12,6 @@ use Rattle.axis.proofs.Sums.{moved-is}
 use mir.Syntax.{w64}
 use Rattle.axis.proofs.formulas.corrected.Goals as goal
 
-pub add-before-requires : goal.add-before-requires
-add-before-requires c = record { bounded = widen (2 ^ 62) c.requires.bounded tt; bounded_2 = widen (2 ^ 62) c.requires.bounded_2 tt }
-
 pub moved-requires : goal.moved-requires
 moved-requires c =
     rw c.add-before.ensures (widen (2 ^ 61) (sum-within c.requires.bounded c.requires.bounded_2) tt)

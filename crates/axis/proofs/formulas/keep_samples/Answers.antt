@@ -14,9 +14,6 @@ use Rattle.axis.specs.Formulas.{places, kept_samples}
 use Rattle.axis.proofs.Places.{placed-next, at-behind}
 use Rattle.axis.proofs.formulas.keep_samples.Goals as goal
 
-pub loop-i-init : goal.loop-i-init
-loop-i-init c = (search rules, (search rules, refl))
-
 pub loop-i-preserved : goal.loop-i-preserved
 loop-i-preserved c =
     let l = c.loop-i in
@@ -24,22 +21,14 @@ loop-i-preserved c =
     let i = l.i in
     let e : length xs ≡ 9 = search rules in
     let f : SFits w64 (get_or xs (i - 1) (pos 0)) = search rules in
-    let y = to_z w64 (of_z w64 c.args.sample) in (
-      search rules,
-      (
-        search rules,
-        ap (set l.out i) (to_z-of_z {w = w64} f ∙ sym (at-behind y xs i (omega arith)))
-            ∙ ap (λ out. set out i (get_or (y ∷ xs) i (pos 0))) l.invariant.1.1
-            ∙ placed-next i (y ∷ xs) (omega arith) (omega arith)
-            ∙ ap (λ n. places n (y ∷ xs)) (sym (add-one i)),
-      ),
-    )
+    let y = to_z w64 (of_z w64 c.args.sample) in
+    ap (set l.out i) (to_z-of_z {w = w64} f ∙ sym (at-behind y xs i (omega arith)))
+    ∙ ap (λ out. set out i (get_or (y ∷ xs) i (pos 0))) l.invariant
+    ∙ placed-next i (y ∷ xs) (omega arith) (omega arith)
+    ∙ ap (λ n. places n (y ∷ xs)) (sym (add-one i))
 
 pub returns : goal.returns
 unfolding kept_samples
 returns c =
     let e : c.loop-i.i ≡ c.args.p = omega arith in
-    c.loop-i.invariant.1.1 ∙ rw (to_z-of_z {w = w64} c.ranges.sample, e) refl
-
-pub loop-i-smaller : goal.loop-i-smaller
-loop-i-smaller c = omega arith
+    c.loop-i.invariant ∙ rw (to_z-of_z {w = w64} c.ranges.sample, e) refl

@@ -15,9 +15,6 @@ use Rattle.axis.proofs.Sums.{motion-is}
 use Rattle.axis.proofs.SampleParts.{position-is, velocity-is, part-bounded, sum_is}
 use Rattle.axis.proofs.formulas.present_motion.Goals as goal
 
-pub subtract-before-requires : goal.subtract-before-requires
-subtract-before-requires c = record { bounded = widen (2 ^ 62) c.requires.second tt; bounded_2 = widen (2 ^ 62) c.requires.first tt }
-
 pub add-position-requires : goal.add-position-requires
 unfolding corrector_part
 add-position-requires c =

@@ -13,12 +13,9 @@ use mir.Facts.{to_z-of_z}
 use Rattle.integers.specs.Tests.{◌and◌, failed, passed, and_no, and_yes}
 use Rattle.integers.specs.Differences.{at}
 use Rattle.axis.specs.Holding.{place_holds, places_hold}
-use Rattle.axis.proofs.Places.{hold-next, less_none}
+use Rattle.axis.proofs.Places.{hold-next}
 use Rattle.std.proofs.lemmas.Bool.{not_from_false, not_from_true}
 use Rattle.axis.proofs.holding.places_by.Goals as goal
-
-pub loop-i-init : goal.loop-i-init
-loop-i-init c = (search rules, rw (less_none c.args.p) refl)
 
 pub returns-then-not-place_holds : goal.returns-then-not-place_holds
 returns-then-not-place_holds c =
@@ -27,7 +24,7 @@ returns-then-not-place_holds c =
     let i = c.loop-i.i in
     let e : length xs ≡ 9 = search rules in
     let f : SFits w64 (get_or xs i (pos 0)) = search rules in
-    let n : places_hold p xs ≡ (place_holds (ltb i p) (at xs i) and places_hold (p - suc i) (drop (suc i) xs)) = c.loop-i.invariant.1 ∙ hold-next p i xs (omega arith) in
+    let n : places_hold p xs ≡ (place_holds (ltb i p) (at xs i) and places_hold (p - suc i) (drop (suc i) xs)) = c.loop-i.invariant ∙ hold-next p i xs (omega arith) in
     and_no _ (failed (c.place_holds.ensures ∙ ap (place_holds (ltb i p)) (to_z-of_z {w = w64} f)) (not_from_false _ c.if-not-place_holds.true)) ∙ sym n
 
 pub loop-i-preserved : goal.loop-i-preserved
@@ -37,15 +34,12 @@ loop-i-preserved c =
     let i = c.loop-i.i in
     let e : length xs ≡ 9 = search rules in
     let f : SFits w64 (get_or xs i (pos 0)) = search rules in
-    let n : places_hold p xs ≡ (place_holds (ltb i p) (at xs i) and places_hold (p - suc i) (drop (suc i) xs)) = c.loop-i.invariant.1 ∙ hold-next p i xs (omega arith) in
-    (search rules, rw add-one (n ∙ sym (and_yes (passed (c.place_holds.ensures ∙ ap (place_holds (ltb i p)) (to_z-of_z {w = w64} f)) (not_from_true _ c.if-not-place_holds.false)) refl)))
+    let n : places_hold p xs ≡ (place_holds (ltb i p) (at xs i) and places_hold (p - suc i) (drop (suc i) xs)) = c.loop-i.invariant ∙ hold-next p i xs (omega arith) in
+    rw add-one (n ∙ sym (and_yes (passed (c.place_holds.ensures ∙ ap (place_holds (ltb i p)) (to_z-of_z {w = w64} f)) (not_from_true _ c.if-not-place_holds.false)) refl))
 
 pub returns : goal.returns
 unfolding places_hold
 returns c =
     let xs = c.args.samples in
     let e : length xs ≡ 9 = search rules in
-    sym (c.loop-i.invariant.1 ∙ ap (places_hold (c.args.p - c.loop-i.i)) (drop_of_length-le xs {i = c.loop-i.i} (omega arith)))
-
-pub loop-i-smaller : goal.loop-i-smaller
-loop-i-smaller c = omega arith
+    sym (c.loop-i.invariant ∙ ap (places_hold (c.args.p - c.loop-i.i)) (drop_of_length-le xs {i = c.loop-i.i} (omega arith)))

@@ -7,7 +7,7 @@ use Rattle.calendar.proofs.counting.days_before_month.Goals as goal
 
 pub loop-k-init : goal.loop-k-init
 unfolding days_before_month sum_to
-loop-k-init c = (omega arith, omega arith, omega arith, refl)
+loop-k-init c = refl
 
 pub overflow_add-days : goal.overflow_add-days
 overflow_add-days c =
@@ -16,23 +16,9 @@ overflow_add-days c =
     omega (arith, months-most y k, month-most y k)
 
 pub loop-k-preserved : goal.loop-k-preserved
-loop-k-preserved c = (
-  omega arith,
-  omega arith,
-  omega arith,
-  omega (arith, next-month c.args.year c.loop-k.k c.loop-k.invariant.0),
-)
+loop-k-preserved c = omega (arith, next-month c.args.year c.loop-k.k c.loop-k.auto.k)
 
 pub returns : goal.returns
 returns c =
     let e : c.loop-k.k ≡ c.args.month = omega arith in
-    c.loop-k.invariant.3 ∙ ap (days_before_month c.args.year) e
-
-pub days_of_month-days-requires : goal.days_of_month-days-requires
-days_of_month-days-requires c = omega arith
-
-pub overflow_add-k : goal.overflow_add-k
-overflow_add-k c = omega arith
-
-pub loop-k-smaller : goal.loop-k-smaller
-loop-k-smaller c = omega arith
+    c.loop-k.invariant ∙ ap (days_before_month c.args.year) e

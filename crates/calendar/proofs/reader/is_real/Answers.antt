@@ -24,23 +24,23 @@ returns c =
       second = omega arith;
     }))
 
-pub returns-then-year-lt1 : goal.returns-then-year-lt1
-returns-then-year-lt1 c = refused _ (λ r. omega arith)
+pub returns-then-m-lt1 : goal.returns-then-m-lt1
+returns-then-m-lt1 c = refused _ (λ r. omega arith)
 
-pub returns-then-year-gt9999 : goal.returns-then-year-gt9999
-returns-then-year-gt9999 c = refused _ (λ r. omega arith)
+pub returns-then-m-gt9999 : goal.returns-then-m-gt9999
+returns-then-m-gt9999 c = refused _ (λ r. omega arith)
 
-pub returns-then-month-lt1 : goal.returns-then-month-lt1
-returns-then-month-lt1 c = refused _ (λ r. omega arith)
+pub returns-then-m-lt1-2 : goal.returns-then-m-lt1-2
+returns-then-m-lt1-2 c = refused _ (λ r. omega arith)
 
-pub returns-then-month-gt12 : goal.returns-then-month-gt12
-returns-then-month-gt12 c = refused _ (λ r. omega arith)
+pub returns-then-m-gt12 : goal.returns-then-m-gt12
+returns-then-m-gt12 c = refused _ (λ r. omega arith)
 
-pub returns-then-day-lt1 : goal.returns-then-day-lt1
-returns-then-day-lt1 c = refused _ (λ r. omega arith)
+pub returns-then-m-lt1-3 : goal.returns-then-m-lt1-3
+returns-then-m-lt1-3 c = refused _ (λ r. omega arith)
 
-pub returns-then-days_of_month-day : goal.returns-then-days_of_month-day
-returns-then-days_of_month-day c = refused _ (λ r. omega arith)
+pub returns-then-days_of_month-m : goal.returns-then-days_of_month-m
+returns-then-days_of_month-m c = refused _ (λ r. omega arith)
 
 pub returns-then-m-gt23 : goal.returns-then-m-gt23
 returns-then-m-gt23 c = refused _ (λ r. omega arith)

@@ -25,8 +25,8 @@ returns c =
     is-moment-in c.args.s.now
     c.two_at.ensures.0
     c.two_at-2.ensures.0
-    c.two_at-month.ensures.0
-    c.two_at-day.ensures.0
-    c.two_at-hour.ensures.0
-    c.two_at-minute.ensures.0
-    c.two_at-second.ensures.0
+    c.two_at-3.ensures.0
+    c.two_at-4.ensures.0
+    c.two_at-5.ensures.0
+    c.two_at-6.ensures.0
+    c.two_at-7.ensures.0

@@ -9,14 +9,5 @@ pub returns : goal.returns
 unfolding value_at
 returns c =
     let at = c.args.at in
-    let one = c.shared_slice_known-3-1.given at in
-    let two = c.shared_slice_known-3-1.given (at + 1) in
     let z : at + 0 ≡ at = omega arith in
-    rw z (omega arith)
-
-pub overflow_mul-result : goal.overflow_mul-result
-overflow_mul-result c = omega (arith, c.shared_slice_known-2-1.given c.args.at)
-
-pub overflow_add-result : goal.overflow_add-result
-overflow_add-result c = let at = c.args.at in
-    omega (arith, c.shared_slice_known-3-1.given at, c.shared_slice_known-3-1.given (at + 1))
+    rw z (omega (arith, c.value.ensures, c.value-2.ensures), omega (arith, c.value.ensures, c.value-2.ensures, c.type_inv.s at, c.type_inv.s (at + 1)))

@@ -3,11 +3,15 @@ use mathlib.Core.Path.{sym, ◌∙◌}
 use Rattle.decimal.proofs.Texts.{no_byte, no-point, a_point}
 use Rattle.decimal.proofs.reading.read_decimals.Goals as goal
 
+pub returns-in_err-b : goal.returns-in_err-b
+returns-in_err-b c = c.from_residual.ensures ∙ sym (no_byte _ _ _ _ c.in_err-b.ensures.lookup.3)
+
+pub returns-then-b-ne46 : goal.returns-then-b-ne46
+returns-then-b-ne46 c =
+    let (h, is) = c.in_ok-b.ensures.lookup.3 in
+    sym (no-point _ _ _ _ h (λ e. c.if-b-ne46.true (is 0 ∙ e)))
+
 pub returns : goal.returns
-returns c = c.read_digits.ensures ∙ sym (a_point _ _ _ _ c.if-s-at.false c.if-s-at-ne46.false)
-
-pub returns-then-s-at : goal.returns-then-s-at
-returns-then-s-at c = sym (no_byte _ _ _ _ c.if-s-at.true)
-
-pub returns-then-s-at-ne46 : goal.returns-then-s-at-ne46
-returns-then-s-at-ne46 c = sym (no-point _ _ _ _ c.if-s-at.false c.if-s-at-ne46.true)
+returns c =
+    let (h, is) = c.in_ok-b.ensures.lookup.3 in
+    c.read_digits.ensures ∙ sym (a_point _ _ _ _ h (sym (is 0) ∙ c.if-b-ne46.false))

@@ -12,4 +12,8 @@ use mir.Syntax.{w64}
 use Rattle.decimal.proofs.writing.has_few_digits.Goals as goal
 
 pub returns : goal.returns
-returns c = ((let it : (places : ℕ) → places ≤ 15 → ltb c.size.result (10 ^ 16) ≡ few_digits places c.args.n = λ places h. let n = c.args.n in let f = c.ranges.n in ap (λ m. ltb m (10 ^ 16)) (c.size.ensures ∙ ap nat_abs (to_z-of_z {w = w64} f)) ∙ sym (few-digits places n h (size_fits n f)) in it) 6 (omega arith), (let it : (places : ℕ) → places ≤ 15 → ltb c.size.result (10 ^ 16) ≡ few_digits places c.args.n = λ places h. let n = c.args.n in let f = c.ranges.n in ap (λ m. ltb m (10 ^ 16)) (c.size.ensures ∙ ap nat_abs (to_z-of_z {w = w64} f)) ∙ sym (few-digits places n h (size_fits n f)) in it) 9 (omega arith))
+returns c =
+    let n = c.args.n in
+    let few : (places : ℕ) → places ≤ 15 → ltb c.size.result (10 ^ 16) ≡ few_digits places n =
+    λ places h. ap (λ m. ltb m (10 ^ 16)) (c.size.ensures ∙ ap nat_abs (to_z-of_z {w = w64} c.ranges.n)) ∙ sym (few-digits places n h (size_fits n c.ranges.n)) in
+    (few 6 (omega arith), few 9 (omega arith))

@@ -3,8 +3,6 @@ use mathlib.Core.Path.{◌≡◌, ap, ap₂, subst, ◌∙◌}
 use Prim.Native.Nat.{◌<◌}
 use native.Mathlib.Numerals.{add-one}
 use native.Mathlib.Omega.{arith}
-use borrow.Author.Rules.{rules}
-use Rattle.epoch_coefficients.proofs.Centre.{at-most-9}
 use Rattle.axis.specs.Agreement.{sizes}
 use Rattle.axis.proofs.Agreement.{sizes-proper, still-sizes, larger-sizes}
 use Rattle.session.specs.Apart.{point_change}
@@ -15,7 +13,7 @@ use Rattle.epoch_session.proofs.comparing.largest_move.Goals as goal
 
 pub loop-j-init : goal.loop-j-init
 unfolding largest_below
-loop-j-init c = (search rules, c.no_motion-most.ensures ∙ still-sizes)
+loop-j-init c = c.no_motion-most.ensures ∙ still-sizes
 
 pub earlier_point-requires-in-loop-j : goal.earlier_point-requires-in-loop-j
 earlier_point-requires-in-loop-j c =
@@ -27,7 +25,7 @@ point_change-requires c =
     record { placed_point = rw c.earlier_point.ensures (round-placed a.r c.requires.r_value c.loop-j.j (omega arith)); placed_point_2 = rw c.earlier_point-in-loop-j.ensures (round-placed a.before c.requires.before_value c.loop-j.j (subst (λ n. c.loop-j.j < n) c.requires.points_value (omega arith))) }
 
 pub larger_change-most-requires : goal.larger_change-most-requires
-larger_change-most-requires c = record { proper = rw c.loop-j.invariant.1 (sizes-proper _); proper_2 = rw c.point_change.ensures (sizes-proper _) }
+larger_change-most-requires c = record { proper = rw c.loop-j.invariant (sizes-proper _); proper_2 = rw c.point_change.ensures (sizes-proper _) }
 
 pub loop-j-preserved : goal.loop-j-preserved
 unfolding largest_below
@@ -35,17 +33,11 @@ loop-j-preserved c =
     let a = c.args in
     let j = c.loop-j.j in
     let here = c.point_change.ensures ∙ ap₂ (λ q r. sizes (point_change q r)) c.earlier_point.ensures c.earlier_point-in-loop-j.ensures in
-    (search rules, rw (add-one j) (larger-sizes (passed a.r a.before j) (point_change (earlier_point a.r j) (earlier_point a.before j)) c.larger_change-most.ensures c.loop-j.invariant.1 here))
+    rw (add-one j) (larger-sizes (passed a.r a.before j) (point_change (earlier_point a.r j) (earlier_point a.before j)) c.larger_change-most.ensures c.loop-j.invariant here)
 
 pub returns : goal.returns
 unfolding largest_move
 returns c =
     let a = c.args in
     let e : c.loop-j.j ≡ a.r.points = omega arith in
-    c.loop-j.invariant.1 ∙ ap (λ n. sizes (passed a.r a.before n)) e
-
-pub overflow_add-j : goal.overflow_add-j
-overflow_add-j c = omega (arith, at-most-9 c.requires.ready_round.centred)
-
-pub loop-j-smaller : goal.loop-j-smaller
-loop-j-smaller c = omega arith
+    c.loop-j.invariant ∙ ap (λ n. sizes (passed a.r a.before n)) e

@@ -1,6 +1,6 @@
 -- `epoch_session::comparing::largest_move` meets its contract: the largest of the points passed.
 use mathlib.Core.Path.{◌≡◌}
-use Prim.Native.Nat.{ℕ, ◌≤◌, ◌-◌}
+use Prim.Native.Nat.{ℕ}
 use Rattle.axis.specs.Kinds.{Kind}
 use Rattle.axis.specs.Agreement.{sizes}
 use Rattle.session.specs.Apart.{point_change}
@@ -13,7 +13,4 @@ abbrev pub passed : Round → Round → ℕ → Kind → ℕ
 passed r before n kind = largest_below n (λ j. point_change (earlier_point r j) (earlier_point before j) kind)
 
 abbrev pub invariant-loop-j : goal.invariant-loop-j
-invariant-loop-j l = (l.j ≤ l.n) × (l.most ≡ sizes (passed l.r l.before l.j))
-
-abbrev pub decreases-loop-j : goal.decreases-loop-j
-decreases-loop-j l = l.n - l.j
+invariant-loop-j l = l.most ≡ sizes (passed l.r l.before l.j)

@@ -3,9 +3,7 @@ use mathlib.Core.Path.{◌≡◌, refl, sym, ap, ap₂, subst, ◌∙◌}
 use Prim.Native.Nat.{◌<◌}
 use native.Mathlib.Numerals.{add-one}
 use native.Mathlib.Omega.{arith}
-use borrow.Author.Rules.{rules}
 use Rattle.integers.specs.Tests.{failed, passed}
-use Rattle.epoch_coefficients.proofs.Centre.{at-most-9}
 use Rattle.session.specs.Apart.{points_agree}
 use Rattle.epoch_session.specs.Rounds.{every_below, earlier_point, rounds_agree}
 use Rattle.epoch_session.proofs.Below.{every-fails, every_more}
@@ -15,7 +13,7 @@ use Rattle.epoch_session.proofs.comparing.rounds_agree.Goals as goal
 
 pub loop-j-init : goal.loop-j-init
 unfolding every_below
-loop-j-init c = (search rules, refl)
+loop-j-init c = refl
 
 pub earlier_point-requires-in-loop-j : goal.earlier_point-requires-in-loop-j
 earlier_point-requires-in-loop-j c =
@@ -30,24 +28,20 @@ pub returns-then-not-points_agree : goal.returns-then-not-points_agree
 unfolding rounds_agree
 returns-then-not-points_agree c =
     let a = c.args in
-    every-fails (λ j. points_agree a.tolerances (earlier_point a.r j) (earlier_point a.before j)) a.r.points c.loop-j.j c.loop-j-test.true (failed ((let it : let a = c.args in c.points_agree.result ≡ points_agree a.tolerances (earlier_point a.r c.loop-j.j) (earlier_point a.before c.loop-j.j) = c.points_agree.ensures ∙ ap₂ (points_agree c.args.tolerances) c.earlier_point.ensures c.earlier_point-in-loop-j.ensures in it)) (not_from_false _ c.if-not-points_agree.true))
+    let j = c.loop-j.j in
+    let e : c.points_agree.result ≡ points_agree a.tolerances (earlier_point a.r j) (earlier_point a.before j) = c.points_agree.ensures ∙ ap₂ (points_agree a.tolerances) c.earlier_point.ensures c.earlier_point-in-loop-j.ensures in
+    every-fails (λ j. points_agree a.tolerances (earlier_point a.r j) (earlier_point a.before j)) a.r.points j (omega arith) (failed e (not_from_false _ c.if-not-points_agree.true))
 
 pub loop-j-preserved : goal.loop-j-preserved
 loop-j-preserved c =
-    let a = c.args in (
-      rw (add-one c.loop-j.j) c.loop-j-test.true,
-      rw (add-one c.loop-j.j) (every_more (λ j. points_agree a.tolerances (earlier_point a.r j) (earlier_point a.before j)) c.loop-j.j c.loop-j.invariant.1 (passed ((let it : let a = c.args in c.points_agree.result ≡ points_agree a.tolerances (earlier_point a.r c.loop-j.j) (earlier_point a.before c.loop-j.j) = c.points_agree.ensures ∙ ap₂ (points_agree c.args.tolerances) c.earlier_point.ensures c.earlier_point-in-loop-j.ensures in it)) (not_from_true _ c.if-not-points_agree.false))),
-    )
+    let a = c.args in
+    let j = c.loop-j.j in
+    let e : c.points_agree.result ≡ points_agree a.tolerances (earlier_point a.r j) (earlier_point a.before j) = c.points_agree.ensures ∙ ap₂ (points_agree a.tolerances) c.earlier_point.ensures c.earlier_point-in-loop-j.ensures in
+    rw (add-one j) (every_more (λ j. points_agree a.tolerances (earlier_point a.r j) (earlier_point a.before j)) j c.loop-j.invariant (passed e (not_from_true _ c.if-not-points_agree.false)))
 
 pub returns : goal.returns
 unfolding rounds_agree
 returns c =
     let a = c.args in
     let e : c.loop-j.j ≡ a.r.points = omega arith in
-    sym c.loop-j.invariant.1 ∙ ap (λ n. every_below n (λ j. points_agree a.tolerances (earlier_point a.r j) (earlier_point a.before j))) e
-
-pub overflow_add-j : goal.overflow_add-j
-overflow_add-j c = omega (arith, at-most-9 c.requires.ready_round.centred)
-
-pub loop-j-smaller : goal.loop-j-smaller
-loop-j-smaller c = omega arith
+    sym c.loop-j.invariant ∙ ap (λ n. every_below n (λ j. points_agree a.tolerances (earlier_point a.r j) (earlier_point a.before j))) e

@@ -1,37 +1,35 @@
--- `epoch_session::records::axes_start` meets its contract: the tests, one axis after another; axes that keep the rules hold a round.
-use mathlib.Core.Path.{◌∙◌, ap}
-use Rattle.integers.specs.Tests.{stop, go_on, passed}
+-- `epoch_session::records::axes_start` meets its contract: axes that keep the rules hold a round.
+use Rattle.std.proofs.Common.{◌≡◌, sym, ap, ◌∙◌, true, false}
+use Rattle.integers.specs.Tests.{joined, clash, fails}
+use Rattle.epoch_coefficients.specs.Formulas.{has_centre}
+use Rattle.session.specs.declared.Session.{Session}
+use Rattle.session.specs.Holding.{every_axis}
+use Rattle.epoch_session.specs.Ready.{HoldsRound}
+use Rattle.epoch_session.specs.Records.{axis_starts, axes_start, held_round}
 use Rattle.epoch_session.specs.Rounds.{round_in_range}
-use Rattle.epoch_session.specs.Records.{axes_start}
 use Rattle.epoch_session.proofs.Ready.{holds-round, held-ready}
-use Rattle.std.proofs.lemmas.Bool.{not_from_false, not_from_true}
 use Rattle.epoch_session.proofs.records.axes_start.Goals as goal
 
-pub returns-then-not-axis_starts : goal.returns-then-not-axis_starts
-unfolding axes_start
-returns-then-not-axis_starts c = stop _ c.axis_starts.ensures (not_from_false _ c.if-not-axis_starts.true)
+module _ (s : Session) where
+  held : has_centre s.points ≡ true → every_axis s (axis_starts s.points) ≡ true → HoldsRound s
+  held h t = let (x, (y, z)) = simp joined at t in holds-round s h x y z
 
-pub returns-then-not-axis_starts-2 : goal.returns-then-not-axis_starts-2
-unfolding axes_start
-returns-then-not-axis_starts-2 c =
-    go_on c.axis_starts.ensures (not_from_true _ c.if-not-axis_starts.false) (stop _ c.axis_starts-2.ensures (not_from_false _ c.if-not-axis_starts-2.true))
+  rest : every_axis s (axis_starts s.points) ≡ true → round_in_range (held_round s) ≡ axes_start s
+  unfolding axes_start
+  rest t = let (x, (y, z)) = simp joined at t in sym (rw (x, y, z))
 
-pub returns-then-not-axis_starts-3 : goal.returns-then-not-axis_starts-3
-unfolding axes_start
-returns-then-not-axis_starts-3 c =
-    go_on c.axis_starts.ensures (not_from_true _ c.if-not-axis_starts.false) (go_on c.axis_starts-2.ensures (not_from_true _ c.if-not-axis_starts-2.false) (stop _ c.axis_starts-3.ensures (not_from_false _ c.if-not-axis_starts-3.true)))
+  broken : every_axis s (axis_starts s.points) ≡ false → false ≡ axes_start s
+  unfolding axes_start
+  broken t = sym (fails (axes_start s) (λ h. let (x, (y, (z, r))) = simp joined at h in clash (simp joined (x, (y, z))) t))
 
 pub held_round-requires : goal.held_round-requires
-held_round-requires c =
-    holds-round c.args.s c.requires (passed c.axis_starts.ensures (not_from_true _ c.if-not-axis_starts.false)) (passed c.axis_starts-2.ensures (not_from_true _ c.if-not-axis_starts-2.false)) (passed c.axis_starts-3.ensures (not_from_true _ c.if-not-axis_starts-3.false))
+held_round-requires c = held c.args.s c.requires (sym c.each_starts.ensures ∙ c.if-each_starts.true)
 
 pub round_in_range-requires : goal.round_in_range-requires
-round_in_range-requires c = rw c.held_round.ensures (held-ready c.args.s (holds-round c.args.s c.requires (passed c.axis_starts.ensures (not_from_true _ c.if-not-axis_starts.false)) (passed c.axis_starts-2.ensures (not_from_true _ c.if-not-axis_starts-2.false)) (passed c.axis_starts-3.ensures (not_from_true _ c.if-not-axis_starts-3.false))))
+round_in_range-requires c = rw c.held_round.ensures (held-ready c.args.s (held c.args.s c.requires (sym c.each_starts.ensures ∙ c.if-each_starts.true)))
 
-pub returns : goal.returns
-unfolding axes_start
-returns c =
-    go_on c.axis_starts.ensures (not_from_true _ c.if-not-axis_starts.false)
-    (go_on c.axis_starts-2.ensures (not_from_true _ c.if-not-axis_starts-2.false)
-    (go_on c.axis_starts-3.ensures (not_from_true _ c.if-not-axis_starts-3.false)
-    (c.round_in_range.ensures ∙ ap round_in_range c.held_round.ensures)))
+pub returns-then-each_starts : goal.returns-then-each_starts
+returns-then-each_starts c = c.round_in_range.ensures ∙ ap round_in_range c.held_round.ensures ∙ rest c.args.s (sym c.each_starts.ensures ∙ c.if-each_starts.true)
+
+pub returns-else-each_starts : goal.returns-else-each_starts
+returns-else-each_starts c = c.if-each_starts.false ∙ broken c.args.s (sym c.each_starts.ensures ∙ c.if-each_starts.false)

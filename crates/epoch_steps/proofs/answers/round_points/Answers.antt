@@ -1,4 +1,4 @@
--- `epoch_steps::answers::round_points` meets its contract: after i turns the first i places are filled.
+-- `epoch_steps::answers::round_points` meets its contract: each turn fills one place more.
 use mathlib.Core.Path.{◌≡◌, sym, ap, ◌∙◌}
 use mathlib.Core.List.{◌++◌}
 use Prim.Native.Nat.{◌-◌}
@@ -17,7 +17,7 @@ use Rattle.epoch_steps.proofs.answers.round_points.Goals as goal
 
 pub loop-i-init : goal.loop-i-init
 unfolding no_points
-loop-i-init c = (search rules, search rules)
+loop-i-init c = search rules
 
 pub report_point-requires : goal.report_point-requires
 unfolding round_in_range
@@ -31,20 +31,15 @@ loop-i-preserved c =
     let l = c.loop-i in
     let r = c.args.r in
     let i = l.i in
-    let q = c.report_point.ensures ∙ ap reported_point c.earlier_point.ensures in (
-      search rules,
-      ap (set l.out i) q
-          ∙ ap (λ out. set out i (reported_point (earlier_point r (r.points - 1 - i)))) l.invariant.1
-          ∙ filled_next r r.points i (omega (arith, at-most-9 c.requires.ready_round.centred)) (omega arith)
-          ∙ ap (filled_to 9 r r.points) (sym (add-one i)),
-    )
+    let q = c.report_point.ensures ∙ ap reported_point c.earlier_point.ensures in
+    ap (set l.out i) q
+    ∙ ap (λ out. set out i (reported_point (earlier_point r (r.points - 1 - i)))) l.invariant
+    ∙ filled_next r r.points i (omega (arith, at-most-9 c.requires.ready_round.centred)) (omega arith)
+    ∙ ap (filled_to 9 r r.points) (sym (add-one i))
 
 pub returns : goal.returns
 unfolding round_points
 returns c =
     let r = c.args.r in
     let e : c.loop-i.i ≡ r.points = omega arith in
-    c.loop-i.invariant.1 ∙ ap (filled_to 9 r r.points) e ∙ ap (λ qs. qs ++ replicate (9 - r.points) no_point) (take_all r r.points)
-
-pub loop-i-smaller : goal.loop-i-smaller
-loop-i-smaller c = omega arith
+    c.loop-i.invariant ∙ ap (filled_to 9 r r.points) e ∙ ap (λ qs. qs ++ replicate (9 - r.points) no_point) (take_all r r.points)

@@ -5,17 +5,16 @@ use Prim.Native.Nat.{◌+◌}
 use native.Mathlib.Omega.{arith}
 use borrow.Author.Tests.{le-leb, lt-leb}
 use Rattle.axis.specs.Agreement.{sizes}
-use Rattle.session.specs.Moves.{estimate_of}
 use Rattle.session.proofs.Rules.{settings-hold}
 use Rattle.epoch_session.specs.Rounds.{rounds_agree, largest_move}
-use Rattle.epoch_session.specs.Records.{held_round, starting_session}
+use Rattle.epoch_session.specs.Records.{held_round}
 use Rattle.epoch_session.proofs.Points.{move-within}
 use Rattle.epoch_session.proofs.Rules.{keeps-start, starting-round}
 use Rattle.steps.specs.Answers.{reported_motion, reported_change}
 use Rattle.steps.specs.Refusals.{is_last}
 use Rattle.steps.proofs.Changes.{sizes-report}
 use Rattle.epoch_steps.specs.declared.Outcome.TheVariants.{More, Opened}
-use Rattle.epoch_steps.specs.Steps.{refused}
+use Rattle.epoch_steps.specs.Steps.{refused, starting_from}
 use Rattle.epoch_steps.proofs.Compared.{comparable, later-opens, later-ends, later-asks}
 use Rattle.epoch_steps.proofs.refines.judge_round.Goals as goal
 
@@ -34,8 +33,8 @@ returns-then-rounds_agree c =
     let s = c.args.s in
     let r = c.args.r in
     let a : rounds_agree s.tolerances r (held_round s) ≡ true = ap (rounds_agree s.tolerances r) (sym c.held_round-before.ensures) ∙ sym c.rounds_agree.ensures ∙ c.if-rounds_agree.true in
-    let session = c.open_round-session.ensures in
-    let points = c.round_points-track.ensures in
+    let session = c.open_round.ensures in
+    let points = c.round_points.ensures in
     (λ i. record { session = session i; answer = record { outcome = Opened; track = points i } }) ∙ sym (later-opens s r c.requires.r_value a)
 
 pub overflow_add-made : goal.overflow_add-made
@@ -50,8 +49,8 @@ returns-then-s-made c =
     let s = c.args.s in
     let r = c.args.r in
     let a : rounds_agree s.tolerances r (held_round s) ≡ false = ap (rounds_agree s.tolerances r) (sym c.held_round-before.ensures) ∙ sym c.rounds_agree.ensures ∙ c.if-rounds_agree.false in
-    c.refuse_refine.ensures
-    ∙ ap (λ t. record { session = t; answer = refused 8 }) c.closed.ensures
+    c.refused.ensures
+    ∙ (λ i. record { session = c.closed.ensures i; answer = refused (c.into.ensures i) })
     ∙ sym (later-ends s r c.requires.r_value a (le-leb _ _ c.if-s-made.true))
 
 pub largest_move-requires : goal.largest_move-requires
@@ -73,8 +72,8 @@ returns c =
     let s = c.args.s in
     let r = c.args.r in
     let a : rounds_agree s.tolerances r (held_round s) ≡ false = ap (rounds_agree s.tolerances r) (sym c.held_round-before.ensures) ∙ sym c.rounds_agree.ensures ∙ c.if-rounds_agree.false in
-    let session = c.ask_more-session.ensures ∙ ap (λ n. starting_session n s.tolerances s.limit (s.corrections + 1) (estimate_of s) r.x.samples r.y.samples r.z.samples) (sym c.requires.points_value) in
+    let session = c.starting_from.ensures ∙ ap (λ q. starting_from s.tolerances s.limit (s.corrections + 1) q r) c.estimate_of.ensures in
     let change = c.report_motion-change.ensures ∙ ap reported_motion (c.largest_move.ensures ∙ ap (λ q. sizes (largest_move r q)) c.held_round-before.ensures) in
-    let points = c.round_points-track.ensures in
+    let points = c.round_points-2.ensures in
     (λ i. record { session = session i; answer = record { outcome = More (change i); track = points i } })
     ∙ sym (later-asks s r c.requires.r_value a (lt-leb _ _ c.if-s-made.false))

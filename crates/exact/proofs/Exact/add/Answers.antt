@@ -31,12 +31,6 @@ module _ (a b : Exact) (ha : Bounded (2 ^ 62) a) (hb : Bounded (2 ^ 62) b) where
 
 ruleset fitting = (rules, bounded-fits, whole-fits, carried-fits)
 
-pub overflow_add-whole : goal.overflow_add-whole
-overflow_add-whole c = search fitting
-
-pub overflow_add-result : goal.overflow_add-result
-overflow_add-result c = search fitting
-
 pub returns-then-part-lt-D : goal.returns-then-part-lt-D
 returns-then-part-lt-D c = search (fitting, plain)
 

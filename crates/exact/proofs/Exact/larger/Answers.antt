@@ -1,17 +1,7 @@
--- `Exact::larger` meets its contract: by the comparison.
-use mathlib.Core.Path.{sym, ap, ◌∙◌}
-use mathlib.Core.Bool.{Bool, cond}
-use Rattle.exact.specs.Numerator.{larger_of}
+-- `Exact::larger` meets its contract: the derived order is that of the numerators.
+use Rattle.std.proofs.Common.{◌∙◌}
+use Rattle.exact.proofs.Order.{larger-exact}
 use Rattle.exact.proofs.Exact.larger.Goals as goal
 
-pub returns-then-at_most : goal.returns-then-at_most
-unfolding larger_of
-returns-then-at_most c =
-    let a = c.args in
-    sym (ap (λ (t : Bool). cond t a.other a.self) (sym c.at_most.ensures ∙ c.if-at_most.true))
-
 pub returns : goal.returns
-unfolding larger_of
-returns c =
-    let a = c.args in
-    sym (ap (λ (t : Bool). cond t a.other a.self) (sym c.at_most.ensures ∙ c.if-at_most.false))
+returns c = c.max.ensures ∙ larger-exact c.args.self c.args.other c.requires.0 c.requires.1

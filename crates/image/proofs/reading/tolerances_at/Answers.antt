@@ -4,4 +4,4 @@ use Rattle.image.proofs.reading.tolerances_at.Goals as goal
 
 pub returns : goal.returns
 unfolding tolerances_at
-returns c = λ i. record { position = c.word_at-position.ensures i; velocity = c.word_at-velocity.ensures i }
+returns c = λ i. record { position = c.word_at.ensures i; velocity = c.word_at-2.ensures i }

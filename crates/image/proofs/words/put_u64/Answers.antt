@@ -1,32 +1,7 @@
-use mathlib.Core.Path.{refl}
-use native.Mathlib.Omega.{arith}
-use lib.ListN.{length-set}
-use Rattle.image.proofs.Puts.{put-bytes}
+-- `image::words::put_u64` meets its contract: the eight bytes.
+use Rattle.std.proofs.Common.{◌∙◌, arith}
+use Rattle.image.proofs.Puts.{put-word}
 use Rattle.image.proofs.words.put_u64.Goals as goal
 
-pub shape_of-out : goal.shape_of-out
-shape_of-out c = simp length-set refl
-
 pub returns : goal.returns
-returns c = put-bytes c.args.out.now c.args.at c.args.w c.requires
-
-pub bounds-out-at-2 : goal.bounds-out-at-2
-bounds-out-at-2 c = simp length-set (omega arith)
-
-pub bounds-out-at-3 : goal.bounds-out-at-3
-bounds-out-at-3 c = simp length-set (omega arith)
-
-pub bounds-out-at-4 : goal.bounds-out-at-4
-bounds-out-at-4 c = simp length-set (omega arith)
-
-pub bounds-out-at-5 : goal.bounds-out-at-5
-bounds-out-at-5 c = simp length-set (omega arith)
-
-pub bounds-out-at-6 : goal.bounds-out-at-6
-bounds-out-at-6 c = simp length-set (omega arith)
-
-pub bounds-out-at-7 : goal.bounds-out-at-7
-bounds-out-at-7 c = simp length-set (omega arith)
-
-pub bounds-out-at-8 : goal.bounds-out-at-8
-bounds-out-at-8 c = simp length-set (omega arith)
+returns c = let a = c.args in put-word a.out.now a.at a.w _ _ (omega arith) (c.copy_from_slice.ensures.after ∙ c.to_le_bytes.ensures) c.requires

@@ -14,5 +14,5 @@ pub returns : goal.returns
 unfolding exact_words
 returns c =
     let f : SFits w64 c.args.e.whole = search rules in
-    let whole = renamed (ap (λ w. w ∷ []) (word_of f c.signed_word.ensures)) c.put_u64.ensures in
+    let whole = renamed (ap (λ w. w ∷ []) (word_of f c.cast_unsigned.ensures)) c.put_u64.ensures in
     put_then whole (omega arith) c.put_u64-2.ensures

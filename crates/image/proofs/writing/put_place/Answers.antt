@@ -18,7 +18,7 @@ returns c =
     let fx : SFits w64 (at a.s.x.samples a.i) = search rules in
     let fy : SFits w64 (at a.s.y.samples a.i) = search rules in
     let fz : SFits w64 (at a.s.z.samples a.i) = search rules in
-    let x = renamed (ap (λ w. w ∷ []) (word_of fx c.signed_word.ensures)) c.put_u64.ensures in
-    let y = renamed (ap (λ w. w ∷ []) (word_of fy c.signed_word-2.ensures)) c.put_u64-2.ensures in
-    let z = renamed (ap (λ w. w ∷ []) (word_of fz c.signed_word-3.ensures)) c.put_u64-3.ensures in
+    let x = renamed (ap (λ w. w ∷ []) (word_of fx c.cast_unsigned.ensures)) c.put_u64.ensures in
+    let y = renamed (ap (λ w. w ∷ []) (word_of fy c.cast_unsigned-2.ensures)) c.put_u64-2.ensures in
+    let z = renamed (ap (λ w. w ∷ []) (word_of fz c.cast_unsigned-3.ensures)) c.put_u64-3.ensures in
     put_then x (omega arith) (put_then y (omega arith) z)

@@ -1,4 +1,4 @@
--- `image::writing::put_samples` meets its contract. The loop's invariant: the first i places have been put.
+-- `image::writing::put_samples` meets its contract: place by place.
 use mathlib.Core.Path.{◌≡◌, ap}
 use native.Mathlib.Numerals.{add-one}
 use native.Mathlib.Omega.{arith}
@@ -9,35 +9,22 @@ use Rattle.image.proofs.writing.put_samples.Goals as goal
 
 pub loop-i-init : goal.loop-i-init
 unfolding places_words
-loop-i-init c = (omega arith, put-none c.args.out.now c.args.at)
+loop-i-init c = put-none c.args.out.now c.args.at
 
 pub put_place-requires : goal.put_place-requires
-put_place-requires c = (omega arith, omega (arith, c.loop-i.invariant.1.long))
+put_place-requires c = (omega arith, omega (arith, c.loop-i.invariant.long))
 
 pub loop-i-preserved : goal.loop-i-preserved
 unfolding places_words
 loop-i-preserved c =
     let l = c.loop-i in
-    let s = c.args.s in
-    (omega arith, rw (add-one l.i) (put_then l.invariant.1 (omega (arith, length-places_words l.i s)) c.put_place.ensures))
+    rw (add-one l.i) (put_then l.invariant (omega (arith, length-places_words l.i c.args.s)) c.put_place.ensures)
 
 pub shape_of-out : goal.shape_of-out
-shape_of-out c = c.loop-i.invariant.1.long
+shape_of-out c = c.loop-i.invariant.long
 
 pub returns : goal.returns
 returns c =
     let l = c.loop-i in
     let e : l.i ≡ 9 = omega arith in
-    renamed (ap (λ n. places_words n c.args.s) e) l.invariant.1
-
-pub overflow_mul-i : goal.overflow_mul-i
-overflow_mul-i c = omega arith
-
-pub overflow_add-at : goal.overflow_add-at
-overflow_add-at c = omega arith
-
-pub overflow_add-i : goal.overflow_add-i
-overflow_add-i c = omega arith
-
-pub loop-i-smaller : goal.loop-i-smaller
-loop-i-smaller c = omega arith
+    renamed (ap (λ n. places_words n c.args.s) e) l.invariant

@@ -1,11 +1,7 @@
--- `image::writing::put_samples` meets its contract. The loop's invariant: the first i places have been put.
-use Prim.Native.Nat.{◌-◌, ◌≤◌}
+-- The loop's invariant: the first i places have been put.
 use Rattle.image.specs.Bytes.{Put}
 use Rattle.image.specs.Layout.{places_words}
 use Rattle.image.proofs.writing.put_samples.Given as goal
 
 abbrev pub invariant-loop-i : goal.invariant-loop-i
-invariant-loop-i l = (l.i ≤ 9) × Put l.initial.out l.at (places_words l.i l.s) l.out
-
-abbrev pub decreases-loop-i : goal.decreases-loop-i
-decreases-loop-i l = 9 - l.i
+invariant-loop-i l = Put l.initial.out l.at (places_words l.i l.s) l.out

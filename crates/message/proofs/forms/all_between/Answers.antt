@@ -1,28 +1,19 @@
--- `message::forms::all_between` meets its contract. The loop's invariant: every byte so far is between.
-use mathlib.Core.Path.{refl, sym, ◌∙◌}
-use native.Mathlib.Omega.{arith}
-use borrow.Author.Tests.{not-true, not-false}
-use Rattle.message.proofs.Formed.{outside, inside, no_more}
-use Rattle.std.proofs.lemmas.Bool.{not_from_false, not_from_true}
+-- `message::forms::all_between` meets its contract.
+use Rattle.std.proofs.Common.{ℕ, ◌≡◌, ◌∙◌, refl, ap, leb, List, [], ◌∷◌, rules, tests}
+use Rattle.std.specs.List.{list_all}
+use Rattle.std.proofs.lemmas.Iterator.{YieldsList-from_slice}
+use Rattle.std.proofs.lemmas.Iterator.Search.{all_from_yields_List}
+use Rattle.integers.specs.Tests.{◌and◌}
+use Rattle.message.specs.Form.{all_between}
 use Rattle.message.proofs.forms.all_between.Goals as goal
 
-pub returns-then-not-low-b : goal.returns-then-not-low-b
-returns-then-not-low-b c =
-    let a = c.args in
-    sym (sym c.loop-i.invariant.1 ∙ outside a.low a.high a.s.now c.loop-i.i c.loop-i-test.true (not-true _ (not_from_false _ c.if-not-low-b.true)))
-
-pub loop-i-preserved : goal.loop-i-preserved
-loop-i-preserved c =
-    let a = c.args in
-    (omega arith, sym (inside a.low a.high a.s.now c.loop-i.i c.loop-i-test.true (not-false _ (not_from_true _ c.if-not-low-b.false))) ∙ c.loop-i.invariant.1)
+same : (low high : ℕ) (s : List ℕ) → list_all (λ b. leb low b and leb b high) s ≡ all_between low high s
+unfolding all_between
+same low high [] = refl
+same low high (b ∷ s) = ap (λ t. (leb low b and leb b high) and t) (same low high s)
 
 pub returns : goal.returns
 returns c =
     let a = c.args in
-    sym (sym c.loop-i.invariant.1 ∙ no_more a.low a.high a.s.now c.loop-i.i c.loop-i-test.false)
-
-pub loop-i-init : goal.loop-i-init
-loop-i-init c = (omega arith, refl)
-
-pub loop-i-smaller : goal.loop-i-smaller
-loop-i-smaller c = omega arith
+    all_from_yields_List (λ b. leb a.low b and leb b a.high) _ _ _ c.all.ensures.ran (YieldsList-from_slice a.s.now cc) (λ x b q k. search (rules, tests))
+    ∙ same a.low a.high a.s.now

@@ -1,26 +1,19 @@
--- `message::forms::has_between` meets its contract. The loop's invariant: no byte so far is between.
-use mathlib.Core.Path.{refl, sym, ◌∙◌}
-use native.Mathlib.Omega.{arith}
-use Rattle.message.proofs.Formed.{found, not-here, nowhere}
+-- `message::forms::has_between` meets its contract.
+use Rattle.std.proofs.Common.{ℕ, ◌≡◌, ◌∙◌, refl, ap, leb, ◌||◌, List, [], ◌∷◌, rules, tests}
+use Rattle.std.specs.List.{list_any}
+use Rattle.std.proofs.lemmas.Iterator.{YieldsList-from_slice}
+use Rattle.std.proofs.lemmas.Iterator.Search.{any_from_yields_List}
+use Rattle.integers.specs.Tests.{◌and◌}
+use Rattle.message.specs.Form.{has_between}
 use Rattle.message.proofs.forms.has_between.Goals as goal
 
-pub returns-then-low-b : goal.returns-then-low-b
-returns-then-low-b c =
-    let a = c.args in
-    sym (sym c.loop-i.invariant.1 ∙ found a.low a.high a.s.now c.loop-i.i c.loop-i-test.true c.if-low-b.true)
-
-pub loop-i-preserved : goal.loop-i-preserved
-loop-i-preserved c =
-    let a = c.args in
-    (omega arith, sym (not-here a.low a.high a.s.now c.loop-i.i c.loop-i-test.true c.if-low-b.false) ∙ c.loop-i.invariant.1)
+same : (low high : ℕ) (s : List ℕ) → list_any (λ b. leb low b and leb b high) s ≡ has_between low high s
+unfolding has_between
+same low high [] = refl
+same low high (b ∷ s) = ap (λ t. (leb low b and leb b high) || t) (same low high s)
 
 pub returns : goal.returns
 returns c =
     let a = c.args in
-    sym (sym c.loop-i.invariant.1 ∙ nowhere a.low a.high a.s.now c.loop-i.i c.loop-i-test.false)
-
-pub loop-i-init : goal.loop-i-init
-loop-i-init c = (omega arith, refl)
-
-pub loop-i-smaller : goal.loop-i-smaller
-loop-i-smaller c = omega arith
+    any_from_yields_List (λ b. leb a.low b and leb b a.high) _ _ _ c.any.ensures.ran (YieldsList-from_slice a.s.now cc) (λ x b q k. search (rules, tests))
+    ∙ same a.low a.high a.s.now

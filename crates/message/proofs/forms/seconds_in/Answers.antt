@@ -1,11 +1,12 @@
 -- `message::forms::seconds_in` meets its contract.
-use mathlib.Core.Path.{sym, ◌∙◌}
-use native.Mathlib.Omega.{arith}
-use Rattle.message.proofs.Formed.{seconds-are, seconds-none}
+use Rattle.std.specs.Prelude.{unwrap_or}
+use mathlib.Core.Path.{◌≡◌, ◌∙◌, ap}
+use Rattle.message.specs.Request.{seconds_in}
+use Rattle.message.proofs.Formed.{seconds-most}
 use Rattle.message.proofs.forms.seconds_in.Goals as goal
 
-pub returns-in-Time : goal.returns-in-Time
-returns-in-Time c = seconds-are c.args.s.now (sym c.read_time-reading.ensures ∙ c.in-Time.is)
-
-pub returns-in-Nothing : goal.returns-in-Nothing
-returns-in-Nothing c = (seconds-none c.args.s.now (sym c.read_time-reading.ensures ∙ c.in-Nothing.is), omega arith)
+pub returns : goal.returns
+unfolding seconds_in
+returns c =
+    let e : c.unwrap_or.result ≡ seconds_in c.args.s.now = c.unwrap_or.ensures ∙ ap (λ t. unwrap_or t 0) c.read_time.ensures in
+    (e, rw e (seconds-most c.args.s.now))

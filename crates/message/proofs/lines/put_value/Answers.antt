@@ -5,7 +5,7 @@ use borrow.Author.Rules.{sfits_of}
 use lib.ListN.{length}
 use mir.Syntax.{w64}
 use mir.Facts.{to_z-of_z}
-use Rattle.text.proofs.Pieces.{then}
+use Rattle.text.proofs.Written.{then}
 use Rattle.message.proofs.Formed.{settings}
 use Rattle.message.proofs.Values.{holds_exact, position-ready, velocity-ready, field-position, field-velocity, length-field}
 use Rattle.message.proofs.lines.put_value.Goals as goal
@@ -15,8 +15,8 @@ value_at-e-requires c =
     let a = c.args in
     record { at_in_bounds = omega (arith, c.requires.i_in_bounds.0, c.requires.i_in_bounds.1); at_value = holds_exact a.tick a.step a.points.now a.i a.k c.requires.step_value.1 }
 
-pub put-end-requires : goal.put-end-requires
-put-end-requires c =
+pub put-requires : goal.put-requires
+put-requires c =
     let a = c.args in
     omega (arith, c.requires.k_in_bounds, length-field a.tick a.step a.points.now a.i a.k)
 
@@ -30,7 +30,7 @@ put_fixed-requires c =
     let a = c.args in
     let u = to_z-of_z {w = w64} (sfits_of {z = c.position_units.result} c.position_units.type_inv) ∙ c.position_units.ensures in
     let e = ap length (field-position a.tick a.step a.points.now a.i a.k c.if-k-lt3.true c.value_at-e.ensures u) in
-    record { places_bound = omega arith; n_in_bounds = omega (arith, e, c.requires.k_in_bounds, c.put-end.ensures.ends, c.put-end.ensures.long) }
+    record { places_bound = omega arith; n_in_bounds = omega (arith, e, c.requires.k_in_bounds, c.put.ensures.wrote.ends, c.put.ensures.wrote.long) }
 
 pub velocity_units-requires : goal.velocity_units-requires
 velocity_units-requires c =
@@ -42,16 +42,16 @@ put_fixed-requires-else-k-lt3 c =
     let a = c.args in
     let u = to_z-of_z {w = w64} (sfits_of {z = c.velocity_units.result} c.velocity_units.type_inv) ∙ c.velocity_units.ensures in
     let e = ap length (field-velocity a.tick a.step a.points.now a.i a.k c.if-k-lt3.false c.value_at-e.ensures u) in
-    record { places_bound = omega arith; n_in_bounds = omega (arith, e, c.requires.k_in_bounds, c.put-end.ensures.ends, c.put-end.ensures.long) }
+    record { places_bound = omega arith; n_in_bounds = omega (arith, e, c.requires.k_in_bounds, c.put.ensures.wrote.ends, c.put.ensures.wrote.long) }
 
 pub returns-then-k-lt3 : goal.returns-then-k-lt3
 returns-then-k-lt3 c =
     let a = c.args in
     let u = to_z-of_z {w = w64} (sfits_of {z = c.position_units.result} c.position_units.type_inv) ∙ c.position_units.ensures in
-    rw (field-position a.tick a.step a.points.now a.i a.k c.if-k-lt3.true c.value_at-e.ensures u) (then c.put-end.ensures c.put_fixed.ensures)
+    rw (field-position a.tick a.step a.points.now a.i a.k c.if-k-lt3.true c.value_at-e.ensures u) (then c.put.ensures c.put_fixed.ensures)
 
 pub returns-else-k-lt3 : goal.returns-else-k-lt3
 returns-else-k-lt3 c =
     let a = c.args in
     let u = to_z-of_z {w = w64} (sfits_of {z = c.velocity_units.result} c.velocity_units.type_inv) ∙ c.velocity_units.ensures in
-    rw (field-velocity a.tick a.step a.points.now a.i a.k c.if-k-lt3.false c.value_at-e.ensures u) (then c.put-end.ensures c.put_fixed-else-k-lt3.ensures)
+    rw (field-velocity a.tick a.step a.points.now a.i a.k c.if-k-lt3.false c.value_at-e.ensures u) (then c.put.ensures c.put_fixed-else-k-lt3.ensures)

@@ -11,7 +11,7 @@ pub loop-k-init : goal.loop-k-init
 loop-k-init c =
     let a = c.args in
     let f = field a.tick a.step a.points.now a.i in
-    ((omega arith, omega arith), (all_none (value_holds a.tick a.step a.points.now a.i), omega (arith, length_none f)))
+    (omega arith, (all_none (value_holds a.tick a.step a.points.now a.i), omega (arith, length_none f)))
 
 pub returns-then-more-eq0 : goal.returns-then-more-eq0
 unfolding point_holds
@@ -30,7 +30,7 @@ loop-k-preserved c =
     let h = value_holds a.tick a.step a.points.now a.i in
     let f = field a.tick a.step a.points.now a.i in
     let (t, l) = holds_at (h k) (f k) c.value_length-more.ensures.0 c.if-more-eq0.false in (
-      (omega (arith, c.loop-k-test.true), omega (arith, c.loop-k.invariant.0.1, c.value_length-more.ensures.1)),
+      omega (arith, c.loop-k.invariant.0, c.value_length-more.ensures.1),
       (all_more h k c.loop-k.invariant.1.0 t, omega (arith, c.loop-k.invariant.1.1, l, length-next f k)),
     )
 
@@ -39,15 +39,12 @@ unfolding point_holds
 returns c =
     let a = c.args in
     let h = value_holds a.tick a.step a.points.now a.i in
-    let all : c.loop-k.k ≡ 6 = omega (arith, c.loop-k.invariant.0.0, c.loop-k-test.false) in
+    let all : c.loop-k.k ≡ 6 = omega (arith, c.loop-k-test.false) in
     let t = rw all at c.loop-k.invariant.1.0 in
     let l = rw all at c.loop-k.invariant.1.1 in (
       l ∙ sym (length-line a.tick a.step a.points.now a.i 0) ∙ held (all_of h 6) (line_from a.tick a.step a.points.now 0 a.i) t,
-      omega (arith, c.loop-k.invariant.0.0, c.loop-k.invariant.0.1),
+      omega (arith, c.loop-k.invariant.0),
     )
 
 pub overflow_add-length : goal.overflow_add-length
 overflow_add-length c = omega arith
-
-pub loop-k-smaller : goal.loop-k-smaller
-loop-k-smaller c = omega arith

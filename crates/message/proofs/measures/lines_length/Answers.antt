@@ -15,7 +15,7 @@ pub loop-i-init : goal.loop-i-init
 loop-i-init c =
     let a = c.args in
     let f = line_from a.tick a.step a.points.now 0 in
-    ((omega arith, omega arith), (all_none (point_holds a.tick a.step a.points.now), omega (arith, length_none f)))
+    (omega arith, (all_none (point_holds a.tick a.step a.points.now), omega (arith, length_none f)))
 
 pub line_length-more-requires : goal.line_length-more-requires
 line_length-more-requires c = record { i_in_bounds = omega (arith, c.loop-i-test.true); step_value = c.requires.step_value }
@@ -32,7 +32,7 @@ returns-then-more-eq0 c =
     (unheld (all_of h (length p / 12)) (texts f (length p / 12)) (all-fails h (length p / 12) i none c.loop-i-test.true), omega arith)
 
 pub overflow_add-length : goal.overflow_add-length
-overflow_add-length c = omega (arith, c.loop-i.invariant.0.1, c.line_length-more.ensures.1, c.loop-i-test.true, c.requires.points_len_bound)
+overflow_add-length c = omega (arith, c.loop-i.invariant.0, c.line_length-more.ensures.1, c.loop-i-test.true, c.requires.points_len_bound)
 
 pub loop-i-preserved : goal.loop-i-preserved
 loop-i-preserved c =
@@ -41,7 +41,7 @@ loop-i-preserved c =
     let h = point_holds a.tick a.step a.points.now in
     let f = line_from a.tick a.step a.points.now 0 in
     let (t, l) = holds_at (h i) (f i) c.line_length-more.ensures.0 c.if-more-eq0.false in (
-      (omega (arith, c.loop-i-test.true), omega (arith, c.loop-i.invariant.0.1, c.line_length-more.ensures.1)),
+      omega (arith, c.loop-i.invariant.0, c.line_length-more.ensures.1),
       (all_more h i c.loop-i.invariant.1.0 t, omega (arith, c.loop-i.invariant.1.1, l, length-next f i)),
     )
 
@@ -52,10 +52,7 @@ returns c =
     let p = a.points.now in
     let h = point_holds a.tick a.step p in
     let f = line_from a.tick a.step p 0 in
-    let all : c.loop-i.i ≡ length p / 12 = omega (arith, c.loop-i.invariant.0.0, c.loop-i-test.false) in
+    let all : c.loop-i.i ≡ length p / 12 = omega (arith, c.loop-i-test.false) in
     let t = rw all at c.loop-i.invariant.1.0 in
     let l = rw all at c.loop-i.invariant.1.1 in
-    (l ∙ held (all_of h (length p / 12)) (texts f (length p / 12)) t, omega (arith, c.loop-i.invariant.0.0, c.loop-i.invariant.0.1, c.requires.points_len_bound))
-
-pub loop-i-smaller : goal.loop-i-smaller
-loop-i-smaller c = omega arith
+    (l ∙ held (all_of h (length p / 12)) (texts f (length p / 12)) t, omega (arith, c.loop-i.invariant.0, c.requires.points_len_bound))

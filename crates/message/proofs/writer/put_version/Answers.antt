@@ -4,7 +4,7 @@ use native.Mathlib.Omega.{arith}
 use mathlib.Core.List.{flatten}
 use lib.ListN.{length}
 use Rattle.text.specs.Numbers.{ascii}
-use Rattle.text.proofs.Pieces.{retold}
+use Rattle.text.proofs.Written.{retold}
 use Rattle.message.specs.Editions.{version_of}
 use Rattle.message.specs.Message.{entry, says}
 use Rattle.message.proofs.writer.put_version.Goals as goal

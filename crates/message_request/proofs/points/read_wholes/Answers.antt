@@ -1,26 +1,16 @@
--- `message_request::points::read_wholes` meets its contract. The loop's invariant: k numbers were read.
-use mathlib.Core.Path.{refl, ◌∙◌, ap}
-use native.Mathlib.Omega.{arith}
-use borrow.Author.Rules.{rules}
-use mir.Syntax.{w64}
-use mir.Val.{SFits}
-use mir.Facts.{to_z-of_z}
-use Rattle.message_request.proofs.Numbers.{begun, one_more, all_read}
+-- `message_request::points::read_wholes` meets its contract. The loop's invariant: the numbers so far were read.
+use Rattle.std.proofs.Common.{rules, arith, ◌∙◌, sym}
+use Rattle.message_request.proofs.Numbers.{no_more, one_more, all_read}
 use Rattle.message_request.proofs.points.read_wholes.Goals as goal
 
-pub loop-k-preserved : goal.loop-k-preserved
-loop-k-preserved c =
-    let w = c.read_whole-whole in
-    let f : SFits w64 w.result.value = search rules in
-    one_more _ _ c.loop-k.invariant c.loop-k-test.true
-    (to_z-of_z {w = w64} f ∙ ap (λ v. v.value) w.ensures)
-    (ap (λ v. v.end) w.ensures)
+pub returns-in_err-whole : goal.returns-in_err-whole
+returns-in_err-whole c =
+    c.from_residual.ensures ∙ no_more c.args.text.now c.args.at c.loop-value.invariant (omega arith) (sym (c.in_err-whole.ensures))
 
-pub loop-k-init : goal.loop-k-init
-loop-k-init c = begun _ _ _ refl
-
-pub loop-k-smaller : goal.loop-k-smaller
-loop-k-smaller c = omega arith
+pub loop-value-preserved : goal.loop-value-preserved
+loop-value-preserved c =
+    let k = one_more c.args.text.now c.args.at c.loop-value.invariant (omega arith) c.in_ok-whole.whole c.in_ok-whole.next (sym (c.in_ok-whole.ensures)) in
+    search rules
 
 pub returns : goal.returns
-returns c = all_read _ _ c.loop-k.invariant c.loop-k-test.false
+returns c = all_read c.args.text.now c.args.at c.loop-value.invariant (omega arith)

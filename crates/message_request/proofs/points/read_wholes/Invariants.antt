@@ -1,10 +1,6 @@
--- `message_request::points::read_wholes` meets its contract. The loop's invariant: k numbers were read.
-use Prim.Native.Nat.{◌-◌}
+-- `message_request::points::read_wholes` meets its contract. The loop's invariant: the numbers so far were read.
 use Rattle.message_request.proofs.Numbers.{Reading}
 use Rattle.message_request.proofs.points.read_wholes.Given as goal
 
-abbrev pub invariant-loop-k : goal.invariant-loop-k
-invariant-loop-k l = Reading l.text l.at l.values l.k l.end
-
-abbrev pub decreases-loop-k : goal.decreases-loop-k
-decreases-loop-k l = 12 - l.k
+abbrev pub invariant-loop-value : goal.invariant-loop-value
+invariant-loop-value l = Reading l.text l.initial.end l.value-items l.value-index l.end

@@ -1,22 +1,24 @@
 -- `oem::answers::answer` meets its contract: 17, or the answer of the edition.
-use lib.ListN.{length}
+use Rattle.std.proofs.Common.{subst, length}
 use Rattle.text.specs.Numbers.{ascii}
-use Rattle.oem.proofs.Texts.{version-part, neither-said, edition-said}
+use Rattle.oem.specs.Answers.{Says}
+use Rattle.oem.proofs.Texts.{version-part, by-version}
 use Rattle.oem.proofs.answers.answer.Goals as goal
 
-pub is_neither-requires : goal.is_neither-requires
-is_neither-requires c = version-part c.args.text.now c.read_version-version.ensures
+pub edition_of-requires : goal.edition_of-requires
+edition_of-requires c = version-part c.args.text.now c.read_version-version.ensures
 
-pub returns-then-is_neither : goal.returns-then-is_neither
+pub returns-in-Some : goal.returns-in-Some
+returns-in-Some c =
+    let a = c.args in
+    subst (Says c.answer_from.new.out c.answer_from.result)
+    (by-version a.text.now c.read_version-version.ensures (length a.numbers.now) (length a.out.now) c.in-Some.ensures)
+    c.answer_from.ensures
+
+pub returns-in-None : goal.returns-in-None
 unfolding ascii
-returns-then-is_neither c =
+returns-in-None c =
     let a = c.args in
-    neither-said a.text.now c.read_version-version.ensures (length a.numbers.now) (length a.out.now) c.is_neither.ensures c.if-is_neither.true c.put_line.ensures
-
-pub edition_of-edition-requires : goal.edition_of-edition-requires
-edition_of-edition-requires c = version-part c.args.text.now c.read_version-version.ensures
-
-pub returns : goal.returns
-returns c =
-    let a = c.args in
-    edition-said a.text.now c.read_version-version.ensures (length a.numbers.now) (length a.out.now) c.is_neither.ensures c.if-is_neither.false c.edition_of-edition.ensures c.answer_from.ensures
+    subst (Says c.put_line.new.out c.put_line.result)
+    (by-version a.text.now c.read_version-version.ensures (length a.numbers.now) (length a.out.now) c.in-None.ensures)
+    c.put_line.ensures

@@ -1,30 +1,54 @@
--- `oem::answers::answer_from` meets its contract: by how the text ended.
-use lib.ListN.{length}
+-- `oem::answers::answer_from` meets its contract: by what was read.
+use Rattle.std.proofs.Common.{sym, subst, ap, ◌∙◌, length}
+use Rattle.std.specs.Prelude.{Err}
+use Rattle.std.proofs.lemmas.List.{length-take-le}
 use Rattle.text.specs.Numbers.{ascii}
-use Rattle.oem.proofs.Texts.{parts, count-within, message-said, no-request-said, full-said}
+use Rattle.oem.specs.Answers.{Says}
+use Rattle.oem.proofs.Texts.{parts, count-within, by-read, by-request}
 use Rattle.oem.proofs.answers.answer_from.Goals as goal
 
-pub answer_request-requires : goal.answer_request-requires
-answer_request-requires c =
-    let text = c.args.text.now in
-    let from = c.args.from in
-    let numbers = c.args.numbers.now in
-    let (e, a) = c.read_request-asked.ensures in
-    record { all_within = parts text from numbers e a; count_in_bounds = (count-within text from numbers e a, c.requires) }
+pub slice_bounds-answer_request-end : goal.slice_bounds-answer_request-end
+slice_bounds-answer_request-end c =
+    let a = c.args in
+    let (e, n) = c.in-Ok.ensures in
+    count-within a.text.now a.from a.numbers.now n c.in-Ok.asked e
 
-pub returns-in-Request : goal.returns-in-Request
-returns-in-Request c =
-    let (e, a) = c.read_request-asked.ensures in
-    message-said c.args.text.now c.args.from c.args.numbers.now e a c.args.edition (length c.args.out.now) c.in-Request.is c.answer_request.ensures
+pub slice_bounds-answer_request-end-in-Ok : goal.slice_bounds-answer_request-end-in-Ok
+slice_bounds-answer_request-end-in-Ok c =
+    let a = c.args in
+    let (e, n) = c.in-Ok.ensures in
+    sym (length-take-le _ _ (count-within a.text.now a.from a.numbers.now n c.in-Ok.asked e))
 
-pub returns-in-NoRequest : goal.returns-in-NoRequest
+pub answer_request-requires-clause-all_within : goal.answer_request-requires-clause-all_within
+answer_request-requires-clause-all_within c =
+    let a = c.args in
+    let (e, n) = c.in-Ok.ensures in
+    parts a.text.now a.from a.numbers.now n c.in-Ok.asked e
+
+pub returns-in-Ok : goal.returns-in-Ok
+returns-in-Ok c =
+    let a = c.args in
+    let (e, n) = c.in-Ok.ensures in
+    subst (Says c.answer_request.new.out c.answer_request.result)
+    (by-request a.text.now a.from a.numbers.now n a.edition (length a.out.now) c.in-Ok.asked e)
+    c.answer_request.ensures
+
+pub returns-in-Err-Line : goal.returns-in-Err-Line
 unfolding ascii
-returns-in-NoRequest c =
-    let (e, a) = c.read_request-asked.ensures in
-    no-request-said c.args.text.now c.args.from c.args.numbers.now e a c.args.edition (length c.args.out.now) c.in-NoRequest.is c.put_line.ensures
+returns-in-Err-Line c =
+    let a = c.args in
+    let (e, n) = c.in-Err-Line.ensures in
+    let read = ap Err (sym c.in-Err-Line.field-0-is) ∙ e in
+    subst (Says c.put_line.new.out c.put_line.result)
+    (by-read a.text.now a.from a.numbers.now n a.edition (length a.out.now) read)
+    (rw c.in-Err-Line.line-is at c.put_line.ensures)
 
-pub returns-in-Full : goal.returns-in-Full
+pub returns-in-Err-Full : goal.returns-in-Err-Full
 unfolding ascii
-returns-in-Full c =
-    let (e, a) = c.read_request-asked.ensures in
-    full-said c.args.text.now c.args.from c.args.numbers.now e a c.args.edition (length c.args.out.now) c.in-Full.is c.put_line-in-Full.ensures
+returns-in-Err-Full c =
+    let a = c.args in
+    let (e, n) = c.in-Err-Full.ensures in
+    let read = ap Err (sym c.in-Err-Full.field-0-is) ∙ e in
+    subst (Says c.put_line-in-Err-Full.new.out c.put_line-in-Err-Full.result)
+    (by-read a.text.now a.from a.numbers.now n a.edition (length a.out.now) read)
+    c.put_line-in-Err-Full.ensures

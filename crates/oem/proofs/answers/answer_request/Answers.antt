@@ -20,14 +20,10 @@ slice_bounds-put_message-end-2 c =
     let a = c.args in
     sym (length-take-le c.room_for-room.result a.out.now (omega (arith, c.room_for-room.ensures, room_within a.asked.settings (length a.out.now))))
 
-pub slice_bounds-put_message-end-3 : goal.slice_bounds-put_message-end-3
-slice_bounds-put_message-end-3 c =
-    sym (length-take-le c.args.asked.count c.args.numbers.now c.requires.count_in_bounds.0)
-
 pub returns-then-written-eq0 : goal.returns-then-written-eq0
 returns-then-written-eq0 c =
     let a = c.args in
-    let request = request_of a.text.now a.asked.names a.asked.settings (take a.asked.count a.numbers.now) in
+    let request = request_of a.text.now a.asked.names a.asked.settings a.points.now in
     let out = a.out.now in
     let room = c.room_for-room.result in
     let fits : room ≤ length out = omega (arith, c.room_for-room.ensures, room_within a.asked.settings (length out)) in
@@ -39,7 +35,7 @@ pub returns : goal.returns
 unfolding ascii
 returns c =
     let a = c.args in
-    let request = request_of a.text.now a.asked.names a.asked.settings (take a.asked.count a.numbers.now) in
+    let request = request_of a.text.now a.asked.names a.asked.settings a.points.now in
     let out = a.out.now in
     let room = c.room_for-room.result in
     let fits : room ≤ length out = omega (arith, c.room_for-room.ensures, room_within a.asked.settings (length out)) in

@@ -5,11 +5,11 @@ use Rattle.script.proofs.Lengths.{load-short}
 use Rattle.player.proofs.Written.{room, ends-within}
 use Rattle.player.proofs.answering.answer_load.Goals as goal
 
-pub put_load-end-requires : goal.put_load-end-requires
-put_load-end-requires c = let n = c.read_load-read.result.number in room (load_line n) (load-short n) (omega arith)
+pub put_load-requires : goal.put_load-requires
+put_load-requires c = let n = c.in-Some.read.number in room (load_line n) (load-short n) c.at-w.ensures (omega arith)
 
-pub returns : goal.returns
-returns c =
-    let n = c.read_load-read.result.number in
-    let end = ends-within (load_line n) (load-short n) c.put_load-end.ensures in
+pub returns-in-Some : goal.returns-in-Some
+returns-in-Some c =
+    let n = c.in-Some.read.number in
+    let end = ends-within (load_line n) (load-short n) c.at-w.ensures c.put_load.ensures c.place-end.ensures in
     omega (arith, end)

@@ -5,11 +5,11 @@ use Rattle.script.proofs.Lengths.{save-short}
 use Rattle.player.proofs.Written.{room, ends-within}
 use Rattle.player.proofs.answering.answer_save.Goals as goal
 
-pub put_save-end-requires : goal.put_save-end-requires
-put_save-end-requires c = room (save_line c.args.s) (save-short c.args.s) (omega (arith, c.requires))
+pub put_save-requires : goal.put_save-requires
+put_save-requires c = room (save_line c.args.s) (save-short c.args.s) c.at-w.ensures (omega (arith, c.requires))
 
 pub returns : goal.returns
 returns c =
     let s = c.args.s in
-    let end = ends-within (save_line s) (save-short s) c.put_save-end.ensures in
+    let end = ends-within (save_line s) (save-short s) c.at-w.ensures c.put_save.ensures c.place-end.ensures in
     omega (arith, end)

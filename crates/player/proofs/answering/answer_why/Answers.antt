@@ -5,11 +5,11 @@ use Rattle.script.proofs.Lengths.{why-short}
 use Rattle.player.proofs.Written.{room, ends-within}
 use Rattle.player.proofs.answering.answer_why.Goals as goal
 
-pub put_why-end-requires : goal.put_why-end-requires
-put_why-end-requires c = let e = c.explain.result in room (why_line e) (why-short e) (omega arith)
+pub put_why-requires : goal.put_why-requires
+put_why-requires c = let e = c.explain.result in room (why_line e) (why-short e) c.at-w.ensures (omega arith)
 
-pub returns : goal.returns
-returns c =
+pub returns-in-Some : goal.returns-in-Some
+returns-in-Some c =
     let e = c.explain.result in
-    let end = ends-within (why_line e) (why-short e) c.put_why-end.ensures in
+    let end = ends-within (why_line e) (why-short e) c.at-w.ensures c.put_why.ensures c.place-end.ensures in
     omega (arith, end)

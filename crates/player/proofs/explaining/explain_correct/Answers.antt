@@ -7,9 +7,9 @@ use Rattle.player.proofs.Reasons.{explained}
 use Rattle.player.proofs.explaining.explain_correct.Goals as goal
 
 pub put_sentence-requires : goal.put_sentence-requires
-put_sentence-requires c = record { part_bound = subst (λ e. e.reason.change.exact.part < D) (sym c.explain.ensures) (explained _ _); room = room _ (sentence-short _ _ _) (omega arith) }
+put_sentence-requires c = record { part_bound = subst (λ e. e.reason.change.exact.part < D) (sym c.explain.ensures) (explained _ _); room = room _ (sentence-short _ _ _) c.at-w.ensures (omega arith) }
 
-pub returns : goal.returns
-returns c =
-    let end = ends-within _ (sentence-short _ _ _) c.put_sentence.ensures in
+pub returns-in-Some : goal.returns-in-Some
+returns-in-Some c =
+    let end = ends-within _ (sentence-short _ _ _) c.at-w.ensures c.put_sentence.ensures c.place.ensures in
     omega (arith, end)

@@ -2,8 +2,8 @@
 use Rattle.std.proofs.Common.{◌≡◌, ◌-◌, ◌≤◌, length}
 use Rattle.player.proofs.lines.answer_lines.Given as goal
 
-abbrev pub invariant-loop-from : goal.invariant-loop-from
-invariant-loop-from l = (l.from ≤ l.end) × (l.p.used ≤ l.end) × (l.p.written ≤ length l.out) × (length l.out ≡ length l.fn.out)
+abbrev pub invariant-loop-stop : goal.invariant-loop-stop
+invariant-loop-stop l = (l.p.used ≤ l.end) × (l.p.written ≤ length l.out) × (length l.out ≡ length l.fn.out)
 
-abbrev pub decreases-loop-from : goal.decreases-loop-from
-decreases-loop-from l = l.end - l.from
+abbrev pub decreases-loop-stop : goal.decreases-loop-stop
+decreases-loop-stop l = l.end - l.p.used

@@ -8,9 +8,9 @@ use Rattle.player.proofs.lines.tell_record.Goals as goal
 pub put_record-requires : goal.put_record-requires
 put_record-requires c =
     let s = c.args.answered.session in
-    room (record_line s) (record-short s) (omega arith)
+    room (record_line s) (record-short s) c.at-w.ensures (omega arith)
 
-pub returns : goal.returns
-returns c =
+pub returns-then-answered : goal.returns-then-answered
+returns-then-answered c =
     let s = c.args.answered.session in
-    ends-within (record_line s) (record-short s) c.put_record.ensures
+    ends-within (record_line s) (record-short s) c.at-w.ensures c.put_record.ensures c.place.ensures

@@ -11,7 +11,8 @@ use Rattle.exact.specs.Report.{reported_of}
 use Rattle.exact.proofs.Laws.{made}
 use Rattle.exact.proofs.Bounds.{widen, difference-within}
 use Rattle.axis.specs.Kinds.{moved_by, within}
-use Rattle.reasons.specs.Reasons.{reason, no_reason, compared}
+use Rattle.std.specs.Prelude.{Some, None}
+use Rattle.reasons.specs.Reasons.{reason, compared}
 use Rattle.reasons.proofs.changes.compare.Goals as goal
 
 -- the change of two values in range, as `subtract` gives it
@@ -27,27 +28,24 @@ module _ (e before : Exact) {r : Exact} (n tolerance : ℕ) (h : r ≡ exact_of 
   told : t ≡ not (within tolerance e before)
   told = f ∙ ap (λ z. not (leb (nat_abs z) (tolerance * D))) (made (moved_by e before) h)
 
-  over : t ≡ true → reason n (reported_of r) tolerance ≡ compared n tolerance e before
-  over g = ap (λ x. reason n (reported_of x) tolerance) h ∙ sym (ap (λ b. cond b (reason n (reported_of (exact_of (moved_by e before))) tolerance) no_reason) (sym told ∙ g))
+  over : t ≡ true → Some (reason n (reported_of r) tolerance) ≡ compared n tolerance e before
+  over g = ap (λ x. Some (reason n (reported_of x) tolerance)) h ∙ sym (ap (λ b. cond b (Some (reason n (reported_of (exact_of (moved_by e before))) tolerance)) None) (sym told ∙ g))
 
-  under : t ≡ false → no_reason ≡ compared n tolerance e before
-  under g = sym (ap (λ b. cond b (reason n (reported_of (exact_of (moved_by e before))) tolerance) no_reason) (sym told ∙ g))
+  under : t ≡ false → None ≡ compared n tolerance e before
+  under g = sym (ap (λ b. cond b (Some (reason n (reported_of (exact_of (moved_by e before))) tolerance)) None) (sym told ∙ g))
 
-pub subtract-exact-requires : goal.subtract-exact-requires
-subtract-exact-requires c = record { bounded = widen (2 ^ 62) c.requires.bounded tt; bounded_2 = widen (2 ^ 62) c.requires.bounded_2 tt }
+pub is_over-requires-clause-bounded : goal.is_over-requires-clause-bounded
+is_over-requires-clause-bounded c = let a = c.args in widen (2 ^ 62) (bounded a.now a.before c.requires.bounded c.requires.bounded_2 c.subtract-change.ensures) tt
 
-pub is_over-requires : goal.is_over-requires
-is_over-requires c = let a = c.args in record { tolerance_bound = c.requires.tolerance_bound; bounded = widen (2 ^ 62) (bounded a.now a.before c.requires.bounded c.requires.bounded_2 c.subtract-exact.ensures) tt }
-
-pub reported-change-requires : goal.reported-change-requires
-reported-change-requires c = reports c.args.now c.args.before c.requires.bounded c.requires.bounded_2 c.subtract-exact.ensures
-
-pub returns-then-is_over : goal.returns-then-is_over
-returns-then-is_over c =
+pub returns-then-not-is_over : goal.returns-then-not-is_over
+returns-then-not-is_over c =
     let a = c.args in
-    rw c.reported-change.ensures (over a.now a.before a.value a.tolerance c.subtract-exact.ensures c.is_over.ensures c.if-is_over.true)
+    under a.now a.before a.value a.tolerance c.subtract-change.ensures c.is_over.ensures c.if-not-is_over.true
+
+pub reported-requires : goal.reported-requires
+reported-requires c = reports c.args.now c.args.before c.requires.bounded c.requires.bounded_2 c.subtract-change.ensures
 
 pub returns : goal.returns
 returns c =
     let a = c.args in
-    c.place.ensures ∙ under a.now a.before a.value a.tolerance c.subtract-exact.ensures c.is_over.ensures c.if-is_over.false
+    rw c.reported.ensures (over a.now a.before a.value a.tolerance c.subtract-change.ensures c.is_over.ensures c.if-not-is_over.false)

@@ -6,7 +6,7 @@ use mathlib.Core.Bool.{true, false, not}
 use Prim.Native.Nat.{ℕ, ◌*◌, ◌≤◌}
 use native.Mathlib.Omega.{arith}
 use borrow.Author.Tests.{leb-true, le-leb, lt-leb}
-use lib.Dec.{leb, lit<}
+use lib.Dec.{leb}
 use lib.IntN.{ℤ, pos, neg_ℤ, nat_abs, ◌-ℤ◌, +ℤ_idl}
 use lib.Signed.{le_z}
 use mir.Syntax.{w64}
@@ -15,12 +15,12 @@ use mir.ValLaws.{to_z_pos, to_z-of_z}
 use Rattle.integers.specs.Size.{nat_abs-negℤ, sfits-of-size}
 use Rattle.integers.specs.Parts.{integers, nat_abs-parts, one-part, neg-parts}
 use Rattle.integers.specs.Ring.{negℤ-*ℤ-left}
-use Rattle.integers.specs.Tests.{agree, failed, passed}
+use Rattle.integers.specs.Tests.{agree}
 use Rattle.exact.specs.declared.Exact.{Exact}
 use Rattle.exact.specs.Numerator.{D, numerator, wholly}
 use Rattle.exact.proofs.Laws.{numerator-wholly}
-use Rattle.std.proofs.lemmas.Bool.{not_from_false, not_from_true}
 use Rattle.reasons.proofs.changes.is_over.Goals as goal
+use Rattle.reasons.proofs.changes.is_over.Goals.{then-at_most, else-at_most}
 
 module _ (t : ℕ) (h : t ≤ 1048576) where
   cast : to_z w64 t ≡ pos t
@@ -54,26 +54,15 @@ module _ (z : ℤ) (b : ℕ) where
       (λ e. le-leb (nat_abs z) b (omega (integers, nat_abs-parts z, one-part z, neg-parts (pos b))))
       (λ e. omega (integers, leb-true (nat_abs z) b e, nat_abs-parts z, one-part z, neg-parts (pos b)))
 
-pub at_most-requires : goal.at_most-requires
-at_most-requires c = (c.requires.bounded.small, rw c.of_whole.ensures (lit< tt))
-
-pub returns-then-not-at_most : goal.returns-then-not-at_most
-returns-then-not-at_most c =
-    let a = c.args in
-    let t = a.tolerance in
-    above (numerator a.change) (t * D)
-    (failed (c.at_most.ensures ∙ ap (le_z (numerator a.change)) (most t c.requires.tolerance_bound c.of_whole.ensures)) (not_from_false _ c.if-not-at_most.true))
-
 pub overflow_sub-most : goal.overflow_sub-most
 overflow_sub-most c = fits c.args.tolerance c.requires.tolerance_bound
 
-pub at_most-requires-2 : goal.at_most-requires-2
-at_most-requires-2 c = (rw c.of_whole-2.ensures (lit< tt), c.requires.bounded.small)
-
 pub returns : goal.returns
 returns c =
-    let a = c.args in
-    let t = a.tolerance in
-    let z = numerator a.change in
-    let under = passed (c.at_most.ensures ∙ ap (le_z z) (most t c.requires.tolerance_bound c.of_whole.ensures)) (not_from_true _ c.if-not-at_most.false) in
-    ap not (c.at_most-2.ensures ∙ ap (λ y. le_z y z) (least t c.requires.tolerance_bound c.of_whole-2.ensures) ∙ not-above z (t * D) under)
+    let z = numerator c.args.change in
+    let t = c.args.tolerance in
+    let told = c.at_most.ensures ∙ ap (le_z z) (most t c.requires.tolerance_bound c.of_whole.ensures) in
+    elim c.if-at_most.branch [
+      | then-at_most w ↦ ap not (w.result-is ∙ w.at_most-then-at_most.ensures ∙ ap (λ y. le_z y z) (least t c.requires.tolerance_bound w.of_whole-then-at_most.ensures) ∙ not-above z (t * D) (sym told ∙ w.if-at_most.true))
+      | else-at_most w ↦ ap not (w.result-is ∙ w.if-at_most.false) ∙ above z (t * D) (sym told ∙ w.if-at_most.false)
+    ]

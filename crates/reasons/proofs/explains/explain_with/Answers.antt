@@ -1,7 +1,6 @@
 -- `reasons::explains::explain_with` meets its contract: the point is in range or not.
 use mathlib.Core.Path.{◌≡◌, sym, ap, ◌∙◌}
 use mathlib.Core.Bool.{true, false}
-use Rattle.integers.specs.Tests.{failed, passed}
 use Rattle.ticks.specs.declared.WholeSample.{WholeSample}
 use Rattle.session.specs.declared.Point.{Point}
 use Rattle.session.specs.declared.Session.{Session}
@@ -17,7 +16,6 @@ use Rattle.reasons.specs.Reasons.{first, named, is_out, beside, point_reasons}
 use Rattle.reasons.specs.Differences.{differences_with}
 use Rattle.reasons.specs.Explanations.{explanation, explained_by, judged_point, explained_with}
 use Rattle.reasons.proofs.Numbers.{given, out}
-use Rattle.std.proofs.lemmas.Bool.{not_from_false, not_from_true}
 use Rattle.reasons.proofs.explains.explain_with.Goals as goal
 
 module _ (s : Session) (w : WholeSample) {q : Point} (e : q ≡ corrected_point s w) {d : Differences} (f : d ≡ differences_with 0 s w) where
@@ -38,21 +36,24 @@ module _ (s : Session) (w : WholeSample) {q : Point} (e : q ≡ corrected_point 
       ∙ ap (λ p. judged_point s p d) e
       ∙ ap (explanation _ _ _) (f ∙ sym (given s (corrected_point s w) w))
 
-pub corrected_point-q-requires : goal.corrected_point-q-requires
-corrected_point-q-requires c = record { ready_session = (waiting c.args.s c.requires.s_value).ready; within_limit = c.requires.within_limit }
+pub corrected_point-q-requires-clause-ready_session : goal.corrected_point-q-requires-clause-ready_session
+corrected_point-q-requires-clause-ready_session c = (waiting c.args.s c.requires.s_value).ready
 
-pub differences_of-differences-requires : goal.differences_of-differences-requires
-differences_of-differences-requires c = record { ready_session = (waiting c.args.s c.requires.s_value).ready; within_limit = c.requires.within_limit }
+pub differences_of-differences-requires-clause-ready_session : goal.differences_of-differences-requires-clause-ready_session
+differences_of-differences-requires-clause-ready_session c = (waiting c.args.s c.requires.s_value).ready
 
 pub returns-then-not-point_in_range : goal.returns-then-not-point_in_range
 returns-then-not-point_in_range c =
     let a = c.args in
-    outside a.s a.w c.corrected_point-q.ensures c.differences_of-differences.ensures c.first_out-reason.ensures (failed c.point_in_range.ensures (not_from_false _ c.if-not-point_in_range.true))
+    outside a.s a.w c.corrected_point-q.ensures c.differences_of-differences.ensures c.first_out.ensures (sym c.point_in_range.ensures ∙ c.if-not-point_in_range.true)
 
-pub judge-requires : goal.judge-requires
-judge-requires c =
-    let t = passed c.point_in_range.ensures (not_from_true _ c.if-not-point_in_range.false) in
-    record { waiting = waiting c.args.s c.requires.s_value; placed_point = placed-point c.args.s c.args.w c.corrected_point-q.ensures c.differences_of-differences.ensures t; q_value = t }
+pub judge-requires-clause-waiting : goal.judge-requires-clause-waiting
+judge-requires-clause-waiting c = waiting c.args.s c.requires.s_value
+
+pub judge-requires-clause-placed_point : goal.judge-requires-clause-placed_point
+judge-requires-clause-placed_point c =
+    let a = c.args in
+    placed-point a.s a.w c.corrected_point-q.ensures c.differences_of-differences.ensures (sym c.point_in_range.ensures ∙ c.if-not-point_in_range.false)
 
 pub returns : goal.returns
 returns c =

@@ -15,11 +15,8 @@ returns-then-s c =
     let a = c.args in
     ended a.s a.q a.differences c.first_over-reason.ensures c.requires.q_value c.if-reason-eq0.false (le-leb _ _ c.if-s.true)
 
-pub returns : goal.returns
+pub returns-else-s : goal.returns-else-s
 unfolding is_last
-returns c =
+returns-else-s c =
     let a = c.args in
     again a.s a.q a.differences c.first_over-reason.ensures c.requires.q_value c.if-reason-eq0.false (lt-leb _ _ c.if-s.false)
-
-pub first_over-reason-requires : goal.first_over-reason-requires
-first_over-reason-requires c = record { waiting = c.requires.waiting; placed_point = c.requires.placed_point }

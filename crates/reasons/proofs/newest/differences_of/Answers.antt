@@ -1,7 +1,7 @@
 -- `reasons::newest::differences_of` meets its contract: given while no correction is counted.
 use mathlib.Core.Path.{◌≡◌, sym, ap, ◌∙◌}
 use mathlib.Core.Bool.{true, cond}
-use Prim.Native.Nat.{ℕ, ◌^◌, ◌≤◌}
+use Prim.Native.Nat.{◌^◌, ◌≤◌}
 use borrow.Author.Tests.{eq-eqb, ne_eqb}
 use borrow.Author.Rules.{sfits_of}
 use native.Mathlib.Omega.{arith}
@@ -11,9 +11,6 @@ use mir.Val.{to_z, of_z, SFits}
 use mir.Facts.{to_z-of_z}
 use Rattle.integers.specs.Size.{sfits-of-size}
 use Rattle.integers.specs.Differences.{at, in_front}
-use Rattle.coefficients.specs.Formulas.{Small}
-use Rattle.axis.specs.declared.Axis.{Axis}
-use Rattle.axis.specs.Ready.{Ready}
 use Rattle.rules.specs.Rules.{NotZero}
 use Rattle.ticks.specs.declared.WholeSample.{WholeSample}
 use Rattle.session.specs.declared.Session.{Session}
@@ -37,9 +34,6 @@ returns-then-s-ne0 c = let a = c.args in c.no_differences.ensures ∙ counted a.
 kept : (n : ℤ) → nat_abs n ≤ 2 ^ 28 → to_z w64 (of_z w64 n) ≡ n
 kept n h = to_z-of_z {w = w64} (sfits-of-size (omega arith))
 
-asks : (p : ℕ) (a : Axis) → Ready p a → (n : ℤ) → nat_abs n ≤ 2 ^ 28 → (p ≤ 9) × ((nat_abs (to_z w64 (of_z w64 n)) ≤ 2 ^ 28) × Small a.samples)
-asks p a r n h = (r.some.1, (rw (kept n h) h, r.small))
-
 module _ (s : Session) (w : WholeSample) where
   gives : (k : Coordinate) {r : ℤ} → nat_abs (ticks_on k w) ≤ 2 ^ 28 → SFits w64 r → r ≡ difference s.points (in_front (to_z w64 (of_z w64 (ticks_on k w))) (at (axis_of k s).samples)) →
       to_z w64 (of_z w64 r) ≡ difference_on k s w
@@ -57,12 +51,3 @@ returns c =
       z = gives a.s a.w on_z c.requires.within_limit.on-z (sfits_of c.difference-3.type_inv) c.difference-3.ensures i;
     })
     ∙ uncounted a.s a.w c.if-s-ne0.false
-
-pub difference-requires : goal.difference-requires
-difference-requires c = let t = asks _ c.args.s.x c.requires.ready_session.on-x c.args.w.x c.requires.within_limit.on-x in record { p_bound = t.0; sample_bound = t.1.0; small = t.1.1 }
-
-pub difference-requires-2 : goal.difference-requires-2
-difference-requires-2 c = let t = asks _ c.args.s.y c.requires.ready_session.on-y c.args.w.y c.requires.within_limit.on-y in record { p_bound = t.0; sample_bound = t.1.0; small = t.1.1 }
-
-pub difference-requires-3 : goal.difference-requires-3
-difference-requires-3 c = let t = asks _ c.args.s.z c.requires.ready_session.on-z c.args.w.z c.requires.within_limit.on-z in record { p_bound = t.0; sample_bound = t.1.0; small = t.1.1 }

@@ -1,12 +1,22 @@
 -- `received::data::ends_at` meets its contract.
-use Rattle.received.proofs.Fields.{ends-before, not-one, last_one}
+use mathlib.Core.List.{[], ◌∷◌}
+use mathlib.Core.Path.{◌∙◌, ap}
+use native.Mathlib.Omega.{arith}
+use borrow.Author.Tests.{le-ltb}
+use lib.ListN.{length, drop, length-drop}
+use lib.Seq.{take_all}
+use Prim.Native.Nat.{◌-◌}
+use Rattle.text.specs.Numbers.{ascii}
+use Rattle.calendar.specs.Text.{same_text}
+use Rattle.received.proofs.Fields.{ends_before}
 use Rattle.received.proofs.data.ends_at.Goals as goal
 
-pub returns-then-line-at : goal.returns-then-line-at
-returns-then-line-at c = let a = c.args in ends-before a.line.now a.at c.if-line-at.true
+pub returns-then-at-line : goal.returns-then-at-line
+unfolding ascii
+returns-then-at-line c =
+    let a = c.args in
+    c.same.ensures
+    ∙ ap (λ s. same_text s (10 ∷ [])) (take_all (length a.line.now - a.at) (drop a.at a.line.now) (omega (arith, length-drop a.at a.line.now)))
 
-pub returns-then-line-at-ne1 : goal.returns-then-line-at-ne1
-returns-then-line-at-ne1 c = let a = c.args in not-one a.line.now a.at c.if-line-at-ne1.true
-
-pub returns : goal.returns
-returns c = let a = c.args in last_one a.line.now a.at c.if-line-at.false c.if-line-at-ne1.false
+pub returns-else-at-line : goal.returns-else-at-line
+returns-else-at-line c = le-ltb _ _ c.if-at-line.false ∙ ends_before c.args.line.now c.args.at c.if-at-line.false

@@ -1,10 +1,6 @@
 -- `received::data::read_fields` meets its contract. The loop's invariant: k fields were read.
-use Prim.Native.Nat.{◌-◌}
 use Rattle.received.proofs.Fields.{Reading}
 use Rattle.received.proofs.data.read_fields.Given as goal
 
 abbrev pub invariant-loop-k : goal.invariant-loop-k
 invariant-loop-k l = Reading l.line l.values l.k l.end
-
-abbrev pub decreases-loop-k : goal.decreases-loop-k
-decreases-loop-k l = 6 - l.k

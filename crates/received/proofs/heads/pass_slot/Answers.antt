@@ -1,56 +1,25 @@
 -- `received::heads::pass_slot` meets its contract.
 use mathlib.Core.Path.{sym, ◌∙◌, ap}
-use mathlib.Core.List.{[], ◌∷◌}
-use lib.ListN.{drop}
-use Rattle.received.specs.Lines.{lines_in}
-use Rattle.received.specs.Slots.{walk}
 use Rattle.received.specs.Reading.{slot_at}
-use Rattle.received.specs.Finding.{spot_from}
-use Rattle.received.proofs.Dispatch.{is_any_lem, is-perhaps, is_one}
+use Rattle.received.specs.Slots.{form_of}
+use Rattle.received.proofs.Walks.{ends}
+use Rattle.received.proofs.Dispatch.{is_one_lem, is_perhaps_lem, is_any_lem}
 use Rattle.received.proofs.heads.pass_slot.Goals as goal
 
-pub returns-then-is_any : goal.returns-then-is_any
-returns-then-is_any c =
+pub returns-in-One-clause-ends : goal.returns-in-One-clause-ends
+returns-in-One-clause-ends c =
     let a = c.args in
-    let lines = lines_in (drop a.at a.text.now) in (
-      c.pass_any.ensures.0
-          ∙ ap (λ s. spot_from a.at a.line (walk (s ∷ []) lines))
-          (is_any_lem (slot_at a.edition a.k) (sym (c.is_any.ensures a.edition) ∙ c.if-is_any.true)),
-      c.pass_any.ensures.1,
-    )
+    c.pass_one.ensures.ends
+    ∙ ap (ends (form_of (slot_at a.edition a.k)) a.text.now a.from.at a.from.line) (is_one_lem (slot_at a.edition a.k) (sym (c.kind_of.ensures a.edition) ∙ c.in-One.is))
 
-pub returns-then-is_perhaps : goal.returns-then-is_perhaps
-returns-then-is_perhaps c =
+pub returns-in-Perhaps-clause-ends : goal.returns-in-Perhaps-clause-ends
+returns-in-Perhaps-clause-ends c =
     let a = c.args in
-    let lines = lines_in (drop a.at a.text.now) in (
-      c.pass_perhaps.ensures.0
-          ∙ ap (λ s. spot_from a.at a.line (walk (s ∷ []) lines))
-          (is-perhaps a.edition a.k (sym (c.is_perhaps.ensures a.edition) ∙ c.if-is_perhaps.true)),
-      c.pass_perhaps.ensures.1,
-    )
+    c.pass_perhaps.ensures.ends
+    ∙ ap (ends (form_of (slot_at a.edition a.k)) a.text.now a.from.at a.from.line) (is_perhaps_lem a.edition a.k (sym (c.kind_of.ensures a.edition) ∙ c.in-Perhaps.is))
 
-pub returns : goal.returns
-returns c =
+pub returns-in-Any-clause-ends : goal.returns-in-Any-clause-ends
+returns-in-Any-clause-ends c =
     let a = c.args in
-    let lines = lines_in (drop a.at a.text.now) in (
-      c.pass_one.ensures.0
-          ∙ ap (λ s. spot_from a.at a.line (walk (s ∷ []) lines))
-          (is_one (slot_at a.edition a.k) (sym (c.is_any.ensures a.edition) ∙ c.if-is_any.false)
-          (sym (c.is_perhaps.ensures a.edition) ∙ c.if-is_perhaps.false)),
-      c.pass_one.ensures.1,
-    )
-
-pub is_any-requires : goal.is_any-requires
-is_any-requires c = c.requires.k_bound
-
-pub pass_any-requires : goal.pass_any-requires
-pass_any-requires c = c.requires.inside
-
-pub is_perhaps-requires : goal.is_perhaps-requires
-is_perhaps-requires c = c.requires.k_bound
-
-pub pass_perhaps-requires : goal.pass_perhaps-requires
-pass_perhaps-requires c = c.requires.inside
-
-pub pass_one-requires : goal.pass_one-requires
-pass_one-requires c = c.requires.inside
+    c.pass_any.ensures.ends
+    ∙ ap (ends (form_of (slot_at a.edition a.k)) a.text.now a.from.at a.from.line) (is_any_lem (slot_at a.edition a.k) (sym (c.kind_of.ensures a.edition) ∙ c.in-Any.is))

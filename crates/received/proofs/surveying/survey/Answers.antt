@@ -10,47 +10,15 @@ use Rattle.received.proofs.surveying.survey.Goals.{then-kept-eq0, else-kept-eq0}
 pub loop-at-init : goal.loop-at-init
 loop-at-init c = begun c.args.text.now c.args.from c.requires
 
-pub look-l-requires : goal.look-l-requires
-look-l-requires c = c.loop-at-test.true
-
-pub overflow_add-earliest : goal.overflow_add-earliest
-overflow_add-earliest c = omega (arith, c.look-l.ensures.early)
-
-pub overflow_add-kept : goal.overflow_add-kept
-overflow_add-kept c =
-    let l = c.loop-at.invariant in
-    omega (arith, l.some, l.room, l.within)
-
-pub overflow_sub-bytes : goal.overflow_sub-bytes
-overflow_sub-bytes c = omega (arith, c.look-l.ensures.more)
-
-pub overflow_add-bytes : goal.overflow_add-bytes
-overflow_add-bytes c =
-    let k = c.look-l.ensures in
-    omega (arith, k.more, k.within, c.loop-at.invariant.room)
-
-pub overflow_add-dropped : goal.overflow_add-dropped
-overflow_add-dropped c =
-    let l = c.loop-at.invariant in
-    omega (arith, l.room, l.within)
-
-pub loop-at-smaller-after-kept-eq0 : goal.loop-at-smaller-after-kept-eq0
-loop-at-smaller-after-kept-eq0 c =
-    let k = c.look-l.ensures in
-    omega (arith, k.more, k.within)
-
 pub loop-at-preserved-after-kept-eq0 : goal.loop-at-preserved-after-kept-eq0
 loop-at-preserved-after-kept-eq0 c =
     let k = c.look-l.ensures in
     let l = c.loop-at.invariant in
     let a = c.args in
     elim c.if-kept-eq0.branch [
-      | then-kept-eq0 w ↦ keeping a.text.now a.from l k c.if-l.true (w.first-is ∙ first-here a.text.now a.from l k w.if-kept-eq0.true) (subst (λ f. f ≤ most_seconds) (sym w.first-is) k.early)
+      | then-kept-eq0 w ↦ keeping a.text.now a.from l k c.if-l.true (w.first-is ∙ first-here a.text.now a.from l k c.if-l.true w.if-kept-eq0.true) (subst (λ f. f ≤ most_seconds) (sym w.first-is) k.early)
       | else-kept-eq0 w ↦ keeping a.text.now a.from l k c.if-l.true (w.first-is ∙ first-before a.text.now a.from l k w.if-kept-eq0.false) (subst (λ f. f ≤ most_seconds) (sym w.first-is) l.early)
     ]
-
-pub loop-at-smaller : goal.loop-at-smaller
-loop-at-smaller c = let k = c.look-l.ensures in omega (arith, k.more, k.within)
 
 pub loop-at-preserved : goal.loop-at-preserved
 loop-at-preserved c =

@@ -2,7 +2,8 @@
 use mathlib.Core.Path.{sym, ap}
 use native.Mathlib.Omega.{arith}
 use lib.ListN.{length}
-use Rattle.text.proofs.Pieces.{has_room, retold}
+use Rattle.text.proofs.Written.{retold}
+use Rattle.text.proofs.Pieces.{has_room}
 use Rattle.reports.proofs.Cases.{list-mended, list-refused}
 use Rattle.reports.proofs.list.put_list.Goals as goal
 
@@ -21,7 +22,7 @@ put_refused-requires c =
     let a = c.args in
     has_room (omega (arith, c.requires.count_in_bounds_2, ap length (list-refused a.number a.words.now a.count c.if-number-eq0.false)))
 
-pub returns : goal.returns
-returns c =
+pub returns-else-number-eq0 : goal.returns-else-number-eq0
+returns-else-number-eq0 c =
     let a = c.args in
     retold (sym (list-refused a.number a.words.now a.count c.if-number-eq0.false)) c.put_refused.ensures

@@ -4,7 +4,7 @@ use mathlib.Core.List.{flatten}
 use native.Mathlib.Omega.{arith}
 use lib.ListN.{length}
 use Rattle.text.specs.Numbers.{ascii}
-use Rattle.text.proofs.Pieces.{retold}
+use Rattle.text.proofs.Written.{retold}
 use Rattle.reports.specs.Reports.{name_line}
 use Rattle.reports.proofs.names.put_name.Goals as goal
 

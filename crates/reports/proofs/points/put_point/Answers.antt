@@ -1,21 +1,21 @@
 -- `reports::points::put_point` meets its contract: its pieces, one after the other.
 use native.Mathlib.Omega.{arith}
 use Rattle.text.specs.Numbers.{ascii}
-use Rattle.text.proofs.Pieces.{piece, last}
+use Rattle.text.proofs.Written.{piece, last}
 use Rattle.reports.specs.Reports.{point_line}
 use Rattle.reports.proofs.points.put_point.Goals as goal
 
 pub returns : goal.returns
 unfolding point_line ascii
-returns c = piece _ c.put_decimal-a.ensures (piece _ c.put_values-b.ensures (last c.put.ensures))
+returns c = piece _ c.put_decimal.ensures (piece _ c.put_numbers.ensures (last c.put.ensures))
 
-pub put_decimal-a-requires : goal.put_decimal-a-requires
+pub put_decimal-requires : goal.put_decimal-requires
 unfolding point_line ascii
-put_decimal-a-requires c = omega arith
+put_decimal-requires c = omega arith
 
-pub put_values-b-requires : goal.put_values-b-requires
+pub put_numbers-requires : goal.put_numbers-requires
 unfolding point_line ascii
-put_values-b-requires c = omega arith
+put_numbers-requires c = omega arith
 
 pub put-requires : goal.put-requires
 unfolding point_line ascii

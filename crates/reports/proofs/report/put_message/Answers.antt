@@ -2,12 +2,13 @@
 use mathlib.Core.List.{flatten}
 use native.Mathlib.Omega.{arith}
 use lib.ListN.{take, length-append}
-use Rattle.text.proofs.Pieces.{has_room, then}
+use Rattle.text.proofs.Written.{then}
+use Rattle.text.proofs.Pieces.{has_room}
 use Rattle.reports.specs.Reports.{names_in, points_text, points_of}
 use Rattle.reports.proofs.report.put_message.Goals as goal
 
-pub put_names-a-requires : goal.put_names-a-requires
-put_names-a-requires c =
+pub put_names-requires : goal.put_names-requires
+put_names-requires c =
     let a = c.args in
     let l = length-append (flatten (names_in a.text.now a.r)) (points_text (take a.r.count (points_of a.epochs.now a.values.now))) in
     record { all_within = c.requires.all_within; room = has_room (omega (arith, c.requires.values_in_bounds, l)) }
@@ -15,9 +16,9 @@ put_names-a-requires c =
 pub put_points-requires : goal.put_points-requires
 put_points-requires c =
     let a = c.args in
-    let v = c.put_names-a.ensures in
+    let v = c.put_names.ensures.wrote in
     let l = length-append (flatten (names_in a.text.now a.r)) (points_text (take a.r.count (points_of a.epochs.now a.values.now))) in
     record { count_in_bounds = c.requires.count_in_bounds; values_in_bounds = omega (arith, c.requires.values_in_bounds, l, v.ends, v.long) }
 
 pub returns : goal.returns
-returns c = then c.put_names-a.ensures c.put_points.ensures
+returns c = then c.put_names.ensures c.put_points.ensures

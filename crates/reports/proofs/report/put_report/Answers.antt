@@ -2,7 +2,8 @@
 use mathlib.Core.Path.{sym, ap}
 use native.Mathlib.Omega.{arith}
 use lib.ListN.{length}
-use Rattle.text.proofs.Pieces.{has_room, retold}
+use Rattle.text.proofs.Written.{retold}
+use Rattle.text.proofs.Pieces.{has_room}
 use Rattle.reports.proofs.Cases.{report-read, report-stopped, report-refused}
 use Rattle.reports.proofs.report.put_report.Goals as goal
 
@@ -31,7 +32,7 @@ put_refused-requires c =
     let a = c.args in
     has_room (omega (arith, c.requires.values_in_bounds, ap length (report-refused a.text.now a.r a.epochs.now a.values.now c.if-r-eq0.false c.if-r-eq15.false)))
 
-pub returns : goal.returns
-returns c =
+pub returns-else-r-eq15 : goal.returns-else-r-eq15
+returns-else-r-eq15 c =
     let a = c.args in
     retold (sym (report-refused a.text.now a.r a.epochs.now a.values.now c.if-r-eq0.false c.if-r-eq15.false)) c.put_refused.ensures

@@ -2,8 +2,8 @@
 use mathlib.Core.Path.{◌≡◌, sym, ap, ◌∙◌}
 use Rattle.ticks.specs.declared.Sample.{Sample}
 use Rattle.session.specs.declared.Session.{Session}
-use Rattle.steps.specs.declared.AfterCorrect.{AfterCorrect}
 use Rattle.steps.specs.declared.Correction.{Correction}
+use Rattle.steps.specs.Answers.{AfterCorrect}
 use Rattle.steps.specs.Steps.{correct_of}
 use Rattle.running.specs.declared.RunAnswer.{RunAnswer}
 use Rattle.running.specs.Runs.{corrected, correcting}

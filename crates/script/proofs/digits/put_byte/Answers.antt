@@ -5,7 +5,7 @@ use Prim.Native.Nat.{ℕ, ◌/◌, ◌%◌, ◌<◌}
 use native.Mathlib.Omega.{arith}
 use Rattle.text.specs.Numbers.{hex_digit, hex_digits}
 use Rattle.text.proofs.Digits.{length-hex_digits}
-use Rattle.text.proofs.Pieces.{then, retold}
+use Rattle.text.proofs.Written.{then, retold}
 use Rattle.script.specs.Bytes.{byte_digits}
 use Rattle.script.proofs.digits.put_byte.Goals as goal
 
@@ -15,16 +15,16 @@ two_digits b h =
     let e : b / 16 ≡ b / 16 % 16 = omega arith in
     ap (λ d. hex_digit d ∷ hex_digit (b % 16) ∷ []) e
 
-pub put-next-requires : goal.put-next-requires
-put-next-requires c = omega (arith, c.requires, length-hex_digits 2 c.args.b)
-
 pub put-requires : goal.put-requires
-put-requires c =
-    let w = c.put-next.ensures in
+put-requires c = omega (arith, c.requires, length-hex_digits 2 c.args.b)
+
+pub put-requires-2 : goal.put-requires-2
+put-requires-2 c =
+    let w = c.put.ensures.wrote in
     omega (arith, c.requires, length-hex_digits 2 c.args.b, w.ends, w.long)
 
 pub returns : goal.returns
 returns c =
     let high = c.digit.ensures in
     let low = c.digit-2.ensures in
-    retold ((λ i. high i ∷ low i ∷ []) ∙ two_digits c.args.b (omega (arith, c.ranges.b))) (then c.put-next.ensures c.put.ensures)
+    retold ((λ i. high i ∷ low i ∷ []) ∙ two_digits c.args.b (omega (arith, c.ranges.b))) (then c.put.ensures c.put-2.ensures)

@@ -1,13 +1,9 @@
--- `script::digits::put_bytes` meets its contract. The loop's invariant: the first i bytes were written.
+-- The loop's invariant: the first bytes were written.
 use mathlib.Core.List.{flatten, map}
-use Prim.Native.Nat.{◌≤◌, ◌-◌}
-use lib.ListN.{length, take}
-use Rattle.text.specs.Places.{Wrote}
+use Rattle.std.proofs.Common.{take}
+use Rattle.text.specs.Writes.{Writes}
 use Rattle.script.specs.Bytes.{byte_digits}
 use Rattle.script.proofs.digits.put_bytes.Given as goal
 
-abbrev pub invariant-loop-i : goal.invariant-loop-i
-invariant-loop-i l = (l.i ≤ length l.bytes) × Wrote l.initial.out l.at (flatten (map byte_digits (take l.i l.bytes))) l.out l.end
-
-abbrev pub decreases-loop-i : goal.decreases-loop-i
-decreases-loop-i l = length l.bytes - l.i
+abbrev pub invariant-loop-b : goal.invariant-loop-b
+invariant-loop-b l = Writes l.initial.w (flatten (map byte_digits (take l.b-index l.bytes))) l.w

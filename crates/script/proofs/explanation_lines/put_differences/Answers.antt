@@ -8,46 +8,48 @@ use lib.IntN.{ℤ}
 use mir.Syntax.{w64}
 use mir.Val.{SFits, to_z, of_z}
 use mir.Facts.{to_z-of_z}
-use Rattle.text.specs.Places.{Wrote}
-use Rattle.text.proofs.Pieces.{retold, has_room, piece, last}
+use Rattle.text.specs.Writes.{Writes}
+use Rattle.text.specs.declared.writing.Writer.{Writer}
+use Rattle.text.proofs.Written.{piece, last, retold}
+use Rattle.text.proofs.Pieces.{has_room}
 use Rattle.script.specs.Lines.{integer, difference_words}
 use Rattle.script.proofs.explanation_lines.put_differences.Goals as goal
 
 -- a machine's whole under its own name
-own : {a b : List ℕ} {i j : ℕ} {z : ℤ} → SFits w64 z → Wrote a i (flatten (integer (to_z w64 (of_z w64 z)))) b j → Wrote a i (flatten (integer z)) b j
-own {a} {b} {i} {j} {z} f w = retold (ap (λ x. flatten (integer x)) (to_z-of_z {w = w64} f)) w
+own : {u w : Writer} {z : ℤ} → SFits w64 z → Writes u (flatten (integer (to_z w64 (of_z w64 z)))) w → Writes u (flatten (integer z)) w
+own f w = retold (ap (λ x. flatten (integer x)) (to_z-of_z {w = w64} f)) w
 
-pub put_natural-a-requires : goal.put_natural-a-requires
+pub put_natural-requires : goal.put_natural-requires
 unfolding difference_words
-put_natural-a-requires c =
+put_natural-requires c =
     rw c.flag_of.ensures (has_room (omega (arith, c.requires.fits)))
-
-pub put_integer-b-requires : goal.put_integer-b-requires
-unfolding difference_words
-put_integer-b-requires c =
-    let fx : SFits w64 c.args.d.x = search rules in
-    let n = rw c.flag_of.ensures at c.put_natural-a.ensures in
-    rw (to_z-of_z {w = w64} fx) (has_room (omega (arith, c.requires.fits, n.ends, n.long)))
-
-pub put_integer-c-requires : goal.put_integer-c-requires
-unfolding difference_words
-put_integer-c-requires c =
-    let fx : SFits w64 c.args.d.x = search rules in
-    let fy : SFits w64 c.args.d.y = search rules in
-    let n = rw c.flag_of.ensures at c.put_natural-a.ensures in
-    let x = own fx c.put_integer-b.ensures in
-    rw (to_z-of_z {w = w64} fy) (has_room (omega (arith, c.requires.fits, n.ends, n.long, x.ends, x.long)))
 
 pub put_integer-requires : goal.put_integer-requires
 unfolding difference_words
 put_integer-requires c =
     let fx : SFits w64 c.args.d.x = search rules in
+    let n = rw c.flag_of.ensures at c.put_natural.ensures in
+    rw (to_z-of_z {w = w64} fx) (has_room (omega (arith, c.requires.fits, n.wrote.ends, n.wrote.long)))
+
+pub put_integer-requires-2 : goal.put_integer-requires-2
+unfolding difference_words
+put_integer-requires-2 c =
+    let fx : SFits w64 c.args.d.x = search rules in
+    let fy : SFits w64 c.args.d.y = search rules in
+    let n = rw c.flag_of.ensures at c.put_natural.ensures in
+    let x = own fx c.put_integer.ensures in
+    rw (to_z-of_z {w = w64} fy) (has_room (omega (arith, c.requires.fits, n.wrote.ends, n.wrote.long, x.wrote.ends, x.wrote.long)))
+
+pub put_integer-requires-3 : goal.put_integer-requires-3
+unfolding difference_words
+put_integer-requires-3 c =
+    let fx : SFits w64 c.args.d.x = search rules in
     let fy : SFits w64 c.args.d.y = search rules in
     let fz : SFits w64 c.args.d.z = search rules in
-    let n = rw c.flag_of.ensures at c.put_natural-a.ensures in
-    let x = own fx c.put_integer-b.ensures in
-    let y = own fy c.put_integer-c.ensures in
-    rw (to_z-of_z {w = w64} fz) (has_room (omega (arith, c.requires.fits, n.ends, n.long, x.ends, x.long, y.ends, y.long)))
+    let n = rw c.flag_of.ensures at c.put_natural.ensures in
+    let x = own fx c.put_integer.ensures in
+    let y = own fy c.put_integer-2.ensures in
+    rw (to_z-of_z {w = w64} fz) (has_room (omega (arith, c.requires.fits, n.wrote.ends, n.wrote.long, x.wrote.ends, x.wrote.long, y.wrote.ends, y.wrote.long)))
 
 pub returns : goal.returns
 unfolding difference_words
@@ -55,10 +57,7 @@ returns c =
     let fx : SFits w64 c.args.d.x = search rules in
     let fy : SFits w64 c.args.d.y = search rules in
     let fz : SFits w64 c.args.d.z = search rules in
-    let n = rw c.flag_of.ensures at c.put_natural-a.ensures in
-    let x = own fx c.put_integer-b.ensures in
-    let y = own fy c.put_integer-c.ensures in
-    piece _ n (piece _ x (piece _ y (last (own fz c.put_integer.ensures))))
-
-pub shape_of-out : goal.shape_of-out
-shape_of-out c = (returns c).long
+    let n = rw c.flag_of.ensures at c.put_natural.ensures in
+    let x = own fx c.put_integer.ensures in
+    let y = own fy c.put_integer-2.ensures in
+    piece _ n (piece _ x (piece _ y (last (own fz c.put_integer-3.ensures))))

@@ -2,7 +2,7 @@
 use mathlib.Core.Path.{ap}
 use native.Mathlib.Omega.{arith}
 use lib.ListN.{length}
-use Rattle.text.proofs.Pieces.{retold}
+use Rattle.text.proofs.Written.{retold}
 use Rattle.decimal.proofs.Digits.{length-last_digits}
 use Rattle.sentences.proofs.decimals.put_shortened.Goals as goal
 

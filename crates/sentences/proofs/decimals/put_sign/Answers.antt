@@ -3,7 +3,7 @@ use mathlib.Core.Path.{sym, ap}
 use native.Mathlib.Omega.{arith}
 use lib.ListN.{length}
 use mir.Facts.{to_z-of_z}
-use Rattle.text.proofs.Pieces.{retold, nothing}
+use Rattle.text.proofs.Written.{nothing, retold}
 use Rattle.sentences.proofs.Texts.{minus, no_sign}
 use mir.Syntax.{w64}
 use Rattle.sentences.proofs.decimals.put_sign.Goals as goal
@@ -18,4 +18,4 @@ returns-then-whole-lt0 c =
 
 pub returns : goal.returns
 returns c =
-    retold (sym (no_sign c.args.whole (rw (to_z-of_z {w = w64} c.ranges.whole) at c.if-whole-lt0.false))) (nothing c.args.out.now c.args.at)
+    retold (sym (no_sign c.args.whole (rw (to_z-of_z {w = w64} c.ranges.whole) at c.if-whole-lt0.false))) (nothing c.args.w.now)

@@ -7,13 +7,13 @@ use Rattle.sentences.proofs.decimals.shorten.Goals as goal
 pub loop-count-preserved : goal.loop-count-preserved
 loop-count-preserved c =
     let l = c.loop-count in
-    dropped l.count l.number c.loop-count-test.true c.if-number-ne0.false ∙ l.invariant
+    dropped l.count l.number c.loop-count-test.true c.if-number-eq0.true ∙ l.invariant
 
-pub returns : goal.returns
-returns c =
+pub returns-else-number-eq0 : goal.returns-else-number-eq0
+returns-else-number-eq0 c = let l = c.loop-count in kept l.count l.number c.if-number-eq0.false ∙ l.invariant
+
+pub returns-after-loop-count : goal.returns-after-loop-count
+returns-after-loop-count c =
     let l = c.loop-count in
     let e : l.count ≡ 0 = omega (arith, c.loop-count-test.false) in
     all-zeros l.count l.number e ∙ l.invariant
-
-pub returns-then-number-ne0 : goal.returns-then-number-ne0
-returns-then-number-ne0 c = let l = c.loop-count in kept l.count l.number c.if-number-ne0.true ∙ l.invariant

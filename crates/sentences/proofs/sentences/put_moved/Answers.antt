@@ -2,30 +2,27 @@
 use native.Mathlib.Omega.{arith}
 use borrow.Author.Rules.{rules}
 use Rattle.text.specs.Numbers.{ascii}
-use Rattle.text.proofs.Pieces.{has_room, whole}
+use Rattle.text.proofs.Written.{piece, last}
+use Rattle.text.proofs.Pieces.{has_room}
 use Rattle.sentences.specs.Sentences.{moved}
 use Rattle.sentences.proofs.sentences.put_moved.Goals as goal
 
-pub put_name-a-requires : goal.put_name-a-requires
+pub put_name-requires : goal.put_name-requires
 unfolding moved ascii
-put_name-a-requires c = omega arith
+put_name-requires c = omega arith
 
-pub put_word-b-requires : goal.put_word-b-requires
+pub put_word-requires : goal.put_word-requires
 unfolding moved ascii
-put_word-b-requires c = omega arith
+put_word-requires c = omega arith
 
-pub put_change-c-requires : goal.put_change-c-requires
+pub put_change-requires : goal.put_change-requires
 unfolding moved ascii
-put_change-c-requires c = record { part_bound = search rules; room = has_room (omega arith) }
+put_change-requires c = record { part_bound = search rules; room = has_room (omega arith) }
 
 pub put_unit-requires : goal.put_unit-requires
 unfolding moved ascii
 put_unit-requires c = omega arith
 
-pub shape_of-out : goal.shape_of-out
-unfolding moved ascii
-shape_of-out c = search rules
-
 pub returns : goal.returns
 unfolding moved ascii
-returns c = whole _ (cc) (omega arith) (omega arith)
+returns c = piece _ c.put_name.ensures (piece _ c.put_word.ensures (piece _ c.put_change.ensures (last c.put_unit.ensures)))

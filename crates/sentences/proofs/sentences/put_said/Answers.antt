@@ -4,7 +4,7 @@ use mathlib.Core.List.{flatten}
 use native.Mathlib.Omega.{arith}
 use borrow.Author.Rules.{rules}
 use Rattle.text.specs.Numbers.{ascii}
-use Rattle.text.proofs.Pieces.{retold, last}
+use Rattle.text.proofs.Written.{last, retold}
 use Rattle.sentences.specs.Sentences.{said}
 use Rattle.sentences.proofs.Numbers.{as_said, another}
 use Rattle.sentences.proofs.sentences.put_said.Goals as goal
@@ -78,31 +78,3 @@ put_word-requires c = let room = rw c.in-7.is at c.requires.room in omega (arith
 pub put_over-requires : goal.put_over-requires
 unfolding said ascii
 put_over-requires c = record { part_bound = c.requires.part_bound; room = rw c.in-8.is at c.requires.room }
-
-pub shape_of-out-in-4 : goal.shape_of-out-in-4
-unfolding said ascii
-shape_of-out-in-4 c = search rules
-
-pub shape_of-out-in-13 : goal.shape_of-out-in-13
-unfolding said ascii
-shape_of-out-in-13 c = search rules
-
-pub shape_of-out-in-5 : goal.shape_of-out-in-5
-unfolding said ascii
-shape_of-out-in-5 c = search rules
-
-pub shape_of-out-in-6 : goal.shape_of-out-in-6
-unfolding said ascii
-shape_of-out-in-6 c = search rules
-
-pub shape_of-out-in-7 : goal.shape_of-out-in-7
-unfolding said ascii
-shape_of-out-in-7 c = search rules
-
-pub shape_of-out-in-8 : goal.shape_of-out-in-8
-unfolding said ascii
-shape_of-out-in-8 c = search rules
-
-pub shape_of-out-in_default : goal.shape_of-out-in_default
-unfolding said ascii
-shape_of-out-in_default c = search rules

@@ -4,7 +4,7 @@ use native.Mathlib.Omega.{arith}
 use borrow.Author.Rules.{rules}
 use lib.ListN.{length}
 use Rattle.text.specs.Numbers.{ascii}
-use Rattle.text.proofs.Pieces.{retold, nothing}
+use Rattle.text.proofs.Written.{nothing, retold}
 use Rattle.sentences.specs.Sentences.{cardinal}
 use Rattle.sentences.proofs.NoWord.{no-cardinal}
 use Rattle.sentences.proofs.words.put_cardinal.Goals as goal
@@ -41,65 +41,33 @@ pub put_word-requires-in-8 : goal.put_word-requires-in-8
 unfolding cardinal ascii
 put_word-requires-in-8 c = omega (arith, c.requires, ap (λ n. length (cardinal n)) c.in-8.is)
 
-pub shape_of-out-in-1 : goal.shape_of-out-in-1
-unfolding cardinal ascii
-shape_of-out-in-1 c = search rules
-
 pub returns-in-1 : goal.returns-in-1
 unfolding cardinal ascii
 returns-in-1 c = retold (sym (ap cardinal c.in-1.is)) c.put_word.ensures
-
-pub shape_of-out-in-2 : goal.shape_of-out-in-2
-unfolding cardinal ascii
-shape_of-out-in-2 c = search rules
 
 pub returns-in-2 : goal.returns-in-2
 unfolding cardinal ascii
 returns-in-2 c = retold (sym (ap cardinal c.in-2.is)) c.put_word-in-2.ensures
 
-pub shape_of-out-in-3 : goal.shape_of-out-in-3
-unfolding cardinal ascii
-shape_of-out-in-3 c = search rules
-
 pub returns-in-3 : goal.returns-in-3
 unfolding cardinal ascii
 returns-in-3 c = retold (sym (ap cardinal c.in-3.is)) c.put_word-in-3.ensures
-
-pub shape_of-out-in-4 : goal.shape_of-out-in-4
-unfolding cardinal ascii
-shape_of-out-in-4 c = search rules
 
 pub returns-in-4 : goal.returns-in-4
 unfolding cardinal ascii
 returns-in-4 c = retold (sym (ap cardinal c.in-4.is)) c.put_word-in-4.ensures
 
-pub shape_of-out-in-5 : goal.shape_of-out-in-5
-unfolding cardinal ascii
-shape_of-out-in-5 c = search rules
-
 pub returns-in-5 : goal.returns-in-5
 unfolding cardinal ascii
 returns-in-5 c = retold (sym (ap cardinal c.in-5.is)) c.put_word-in-5.ensures
-
-pub shape_of-out-in-6 : goal.shape_of-out-in-6
-unfolding cardinal ascii
-shape_of-out-in-6 c = search rules
 
 pub returns-in-6 : goal.returns-in-6
 unfolding cardinal ascii
 returns-in-6 c = retold (sym (ap cardinal c.in-6.is)) c.put_word-in-6.ensures
 
-pub shape_of-out-in-7 : goal.shape_of-out-in-7
-unfolding cardinal ascii
-shape_of-out-in-7 c = search rules
-
 pub returns-in-7 : goal.returns-in-7
 unfolding cardinal ascii
 returns-in-7 c = retold (sym (ap cardinal c.in-7.is)) c.put_word-in-7.ensures
-
-pub shape_of-out-in-8 : goal.shape_of-out-in-8
-unfolding cardinal ascii
-shape_of-out-in-8 c = search rules
 
 pub returns-in-8 : goal.returns-in-8
 unfolding cardinal ascii
@@ -107,4 +75,4 @@ returns-in-8 c = retold (sym (ap cardinal c.in-8.is)) c.put_word-in-8.ensures
 
 pub returns-in_default : goal.returns-in_default
 unfolding cardinal ascii
-returns-in_default c = retold (sym (no-cardinal c.args.n (search rules))) (nothing c.args.out.now c.args.at)
+returns-in_default c = retold (sym (no-cardinal c.args.n (search rules))) (nothing c.args.w.now)

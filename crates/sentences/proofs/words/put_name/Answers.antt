@@ -4,7 +4,7 @@ use native.Mathlib.Omega.{arith}
 use borrow.Author.Rules.{rules}
 use lib.ListN.{length}
 use Rattle.text.specs.Numbers.{ascii}
-use Rattle.text.proofs.Pieces.{retold, nothing}
+use Rattle.text.proofs.Written.{nothing, retold}
 use Rattle.sentences.specs.Sentences.{name_text}
 use Rattle.sentences.proofs.NoWord.{no_name}
 use Rattle.sentences.proofs.words.put_name.Goals as goal
@@ -33,49 +33,25 @@ pub put_word-requires-in-6 : goal.put_word-requires-in-6
 unfolding name_text ascii
 put_word-requires-in-6 c = omega (arith, c.requires, ap (λ n. length (name_text n)) c.in-6.is)
 
-pub shape_of-out-in-1 : goal.shape_of-out-in-1
-unfolding name_text ascii
-shape_of-out-in-1 c = search rules
-
 pub returns-in-1 : goal.returns-in-1
 unfolding name_text ascii
 returns-in-1 c = retold (sym (ap name_text c.in-1.is)) c.put_word.ensures
-
-pub shape_of-out-in-2 : goal.shape_of-out-in-2
-unfolding name_text ascii
-shape_of-out-in-2 c = search rules
 
 pub returns-in-2 : goal.returns-in-2
 unfolding name_text ascii
 returns-in-2 c = retold (sym (ap name_text c.in-2.is)) c.put_word-in-2.ensures
 
-pub shape_of-out-in-3 : goal.shape_of-out-in-3
-unfolding name_text ascii
-shape_of-out-in-3 c = search rules
-
 pub returns-in-3 : goal.returns-in-3
 unfolding name_text ascii
 returns-in-3 c = retold (sym (ap name_text c.in-3.is)) c.put_word-in-3.ensures
-
-pub shape_of-out-in-4 : goal.shape_of-out-in-4
-unfolding name_text ascii
-shape_of-out-in-4 c = search rules
 
 pub returns-in-4 : goal.returns-in-4
 unfolding name_text ascii
 returns-in-4 c = retold (sym (ap name_text c.in-4.is)) c.put_word-in-4.ensures
 
-pub shape_of-out-in-5 : goal.shape_of-out-in-5
-unfolding name_text ascii
-shape_of-out-in-5 c = search rules
-
 pub returns-in-5 : goal.returns-in-5
 unfolding name_text ascii
 returns-in-5 c = retold (sym (ap name_text c.in-5.is)) c.put_word-in-5.ensures
-
-pub shape_of-out-in-6 : goal.shape_of-out-in-6
-unfolding name_text ascii
-shape_of-out-in-6 c = search rules
 
 pub returns-in-6 : goal.returns-in-6
 unfolding name_text ascii
@@ -83,4 +59,4 @@ returns-in-6 c = retold (sym (ap name_text c.in-6.is)) c.put_word-in-6.ensures
 
 pub returns-in_default : goal.returns-in_default
 unfolding name_text ascii
-returns-in_default c = retold (sym (no_name c.args.value (search rules))) (nothing c.args.out.now c.args.at)
+returns-in_default c = retold (sym (no_name c.args.value (search rules))) (nothing c.args.w.now)

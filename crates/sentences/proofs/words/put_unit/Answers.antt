@@ -3,7 +3,7 @@ use mathlib.Core.Path.{sym, ap}
 use native.Mathlib.Omega.{arith}
 use lib.ListN.{length}
 use Rattle.text.specs.Numbers.{ascii}
-use Rattle.text.proofs.Pieces.{retold}
+use Rattle.text.proofs.Written.{retold}
 use Rattle.sentences.proofs.Texts.{of-velocity, of-position}
 use Rattle.sentences.proofs.words.put_unit.Goals as goal
 

@@ -11,10 +11,7 @@ pub returns-then-s-made : goal.returns-then-s-made
 unfolding is_last
 returns-then-s-made c =
     let a = c.args in
-    rw c.settle-session.ensures (sym (ap (λ t. unagreed t a.s a.q a.point) (le-leb _ _ c.if-s-made.true)))
-
-pub largest_change-requires : goal.largest_change-requires
-largest_change-requires c = record { waiting = c.requires.waiting; placed_point = c.requires.placed_point }
+    rw c.settle.ensures (sym (ap (λ t. unagreed t a.s a.q a.point) (le-leb _ _ c.if-s-made.true)))
 
 pub report_motion-change-requires : goal.report_motion-change-requires
 report_motion-change-requires c =
@@ -26,5 +23,5 @@ pub returns : goal.returns
 unfolding is_last reported_change
 returns c =
     let a = c.args in
-    rw (c.await_at-session.ensures, c.report_motion-change.ensures, c.largest_change.ensures)
+    rw (c.await_at.ensures, c.report_motion-change.ensures, c.largest_change.ensures)
     (sym (ap (λ t. unagreed t a.s a.q a.point) (lt-leb _ _ c.if-s-made.false)))

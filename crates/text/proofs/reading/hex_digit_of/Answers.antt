@@ -1,5 +1,5 @@
 -- `text::reading::hex_digit_of` meets its contract.
-use mathlib.Core.Path.{◌≡◌, ◌∙◌, ap}
+use mathlib.Core.Path.{◌≡◌}
 use Prim.Native.Nat.{ℕ, ◌-◌, ◌<◌, ◌≤◌}
 use native.Mathlib.Omega.{arith}
 use borrow.Author.Tests.{lt-leb, le-leb}
@@ -7,37 +7,41 @@ use Rattle.text.specs.Reading.{hex_digit_of}
 use Rattle.text.proofs.reading.hex_digit_of.Goals as goal
 
 module _ (b : ℕ) where
-  before-0 : b < 48 → 16 ≡ hex_digit_of b
+  before-0 : b < 48 → hex_digit_of b ≡ 16
   unfolding hex_digit_of
   before-0 h = rw (lt-leb 48 b h, lt-leb 97 b (omega arith))
 
-  decimal : 48 ≤ b → b < 58 → b - 48 ≡ hex_digit_of b
+  decimal : 48 ≤ b → b < 58 → hex_digit_of b ≡ b - 48
   unfolding hex_digit_of
   decimal l h = rw (le-leb 48 b l, le-leb b 57 (omega arith))
 
-  between : 58 ≤ b → b < 97 → 16 ≡ hex_digit_of b
+  between : 58 ≤ b → b < 97 → hex_digit_of b ≡ 16
   unfolding hex_digit_of
   between l h = rw (le-leb 48 b (omega arith), lt-leb b 57 (omega arith), lt-leb 97 b h)
 
-  letter : 97 ≤ b → b < 103 → b - 87 ≡ hex_digit_of b
+  letter : 97 ≤ b → b < 103 → hex_digit_of b ≡ b - 87
   unfolding hex_digit_of
   letter l h = rw (le-leb 48 b (omega arith), lt-leb b 57 (omega arith), le-leb 97 b l, le-leb b 102 (omega arith))
 
-  past-f : 103 ≤ b → 16 ≡ hex_digit_of b
+  past-f : 103 ≤ b → hex_digit_of b ≡ 16
   unfolding hex_digit_of
   past-f l = rw (le-leb 48 b (omega arith), lt-leb b 57 (omega arith), le-leb 97 b (omega arith), lt-leb b 102 (omega arith))
 
-pub returns-then-b-lt58 : goal.returns-then-b-lt58
-returns-then-b-lt58 c = ap (λ n. n - 48) c.wide.ensures ∙ decimal _ c.if-b-lt48.false c.if-b-lt58.true
+pub returns-in-48-to-57 : goal.returns-in-48-to-57
+returns-in-48-to-57 c =
+    let e = decimal c.args.b (omega arith) (omega arith) in
+    (omega (arith, e), omega (arith, e))
 
-pub returns-then-b-lt103 : goal.returns-then-b-lt103
-returns-then-b-lt103 c = ap (λ n. n - 87) c.wide-then-b-lt103.ensures ∙ letter _ c.if-b-lt97.false c.if-b-lt103.true
+pub returns-in-97-to-102 : goal.returns-in-97-to-102
+returns-in-97-to-102 c =
+    let e = letter c.args.b (omega arith) (omega arith) in
+    (omega (arith, e), omega (arith, e))
 
-pub returns-then-b-lt48 : goal.returns-then-b-lt48
-returns-then-b-lt48 c = before-0 _ c.if-b-lt48.true
+pub returns-in_default : goal.returns-in_default
+returns-in_default c = λ h. omega (arith, before-0 c.args.b (omega arith))
 
-pub returns-then-b-lt97 : goal.returns-then-b-lt97
-returns-then-b-lt97 c = between _ c.if-b-lt58.false c.if-b-lt97.true
+pub returns-in_default-2 : goal.returns-in_default-2
+returns-in_default-2 c = λ h. omega (arith, between c.args.b (omega arith) (omega arith))
 
-pub returns : goal.returns
-returns c = past-f _ c.if-b-lt103.false
+pub returns-in_default-3 : goal.returns-in_default-3
+returns-in_default-3 c = λ h. omega (arith, past-f c.args.b (omega arith))

@@ -1,2 +1,0 @@
--- What more than one proof of the program cites.
-pub mod Sizes

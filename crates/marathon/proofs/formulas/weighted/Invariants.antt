@@ -1,9 +1,0 @@
--- `marathon::formulas::weighted` meets its contract: the loop goes over eleven places.
-use Rattle.std.proofs.Common.{◌-◌, ◌≤◌}
-use Rattle.marathon.proofs.formulas.weighted.Given as goal
-
-abbrev pub invariant-loop-i : goal.invariant-loop-i
-invariant-loop-i l = l.i ≤ 11
-
-abbrev pub decreases-loop-i : goal.decreases-loop-i
-decreases-loop-i l = 11 - l.i

@@ -1,5 +1,0 @@
--- The proof of the cycle of calls {put_hex_digits}. The measure is how many digits are left.
-use Rattle.text.proofs.writing.+put_hex_digits.Given as goal
-
-abbrev pub decreases-put_hex_digits : goal.decreases-put_hex_digits
-decreases-put_hex_digits l = l.k
