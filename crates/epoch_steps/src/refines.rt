@@ -16,7 +16,7 @@ use epoch_session::{
 };
 use rules::{Reason, Refusal};
 use session::{Session, closed, estimate_of};
-use steps::{After, fault_number, report_motion};
+use steps::{After, refusal_of, report_motion};
 
 // The round's points are in range: the session opens, or the last round was made, or more is asked for.
 fn judge_round(s: Session, r: Round) -> AfterRound
@@ -61,7 +61,7 @@ fn later_round(s: Session, floats: &[f64]) -> Result<Round, Refusal>
         return Err(Reason::Length.into());
     }
     if let Some(fault) = ticks::fault_in(floats) {
-        return Err(fault_number(fault));
+        return Err(refusal_of(fault));
     }
     let r = given_round(s.points, estimate_of(s), floats);
     if !round_in_range(r) {

@@ -16,7 +16,7 @@ use rules::{Reason, Refusal};
 use session::{
     Point, Session, WholePoint, closed, exact_point, point_in_range, points_hold, settings_hold,
 };
-use steps::{After, fault_number, no_change};
+use steps::{After, no_change, refusal_of};
 
 // The record that starts from a round, after so many later ones.
 pub(crate) fn starting_from(
@@ -82,7 +82,7 @@ fn first_round(
         return Err(Reason::OutOfRange.into());
     }
     if let Some(fault) = ticks::fault_in(floats) {
-        return Err(fault_number(fault));
+        return Err(refusal_of(fault));
     }
     let r = given_round(points, q, floats);
     if !round_in_range(r) {

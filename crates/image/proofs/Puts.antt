@@ -1,16 +1,14 @@
 -- Words that were put, one after the other.
 use mathlib.Core.Path.{◌≡◌, refl, sym, ◌∙◌, ap, subst}
-use mathlib.Core.List.{List, [], ◌∷◌, ◌++◌, append_assoc, append-nil}
-use Prim.Native.Nat.{ℕ, ◌+◌, ◌*◌, ◌≤◌}
+use mathlib.Core.List.{List, [], ◌∷◌, ◌++◌, append-nil}
+use Prim.Native.Nat.{ℕ, suc, ◌+◌, ◌*◌, ◌/◌, ◌%◌, ◌<◌, ◌≤◌}
 use native.Mathlib.Omega.{arith}
-use lib.ListN.{length, take, drop, drop_of_length-le, length-append, length-drop}
-use lib.Seq.{drop-drop, length-take-le}
+use lib.ListN.{length, drop, set, get_or, drop_of_length-le}
 use Rattle.text.specs.Places.{written, Wrote}
-use Rattle.text.proofs.Pieces.{nothing, then}
+use Rattle.text.proofs.Pieces.{nothing, byte, then}
 use Rattle.image.specs.Bytes.{bytes_of, in_bytes, Put}
 use Rattle.image.proofs.WordLaws.{length-in_bytes, in_bytes-append}
 use Rattle.image.proofs.Eight.{word-written}
-use borrow.Rule.Slice.PartMut.{put_mid}
 use Rattle.std.specs.Int.{w64, to_le_bytes}
 
 -- as a text that was written
@@ -44,18 +42,38 @@ pub put_all : {a b words : List ℕ} → Put a 0 words b → length a ≤ 8 * le
 put_all {a} {b} {words} p l =
     put_front p ∙ ap (λ t. in_bytes words ++ t) (drop_of_length-le a {i = 8 * length words} l) ∙ append-nil (in_bytes words)
 
--- ---- a word: its eight bytes stand in place of what was there
+-- ---- a word, byte by byte
 
-pub put-word : (l : List ℕ) (at w k : ℕ) (bytes : List ℕ) → k ≡ 8 → bytes ≡ to_le_bytes w64 w → at + 8 ≤ length l → Put l at (w ∷ []) (put_mid at k l bytes)
-unfolding in_bytes written
-put-word l at w k bytes n e r =
-    let text = in_bytes (w ∷ []) in
-    let is : bytes ≡ text = e ∙ word-written w ∙ sym (append-nil (bytes_of 8 w)) in
-    let long : length text ≡ k = omega (arith, length-in_bytes (w ∷ [])) in
-    let past = drop k (drop at l) in
-    let past-is : past ≡ drop (at + length text) l = drop-drop k at l ∙ ap (λ j. drop (at + j) l) (sym long) in
-    let size : length bytes ≡ 8 = ap length e in
-    record {
-      holds = ap (λ t. take at l ++ (t ++ past)) is ∙ sym (append_assoc (take at l) text past) ∙ ap (λ t. take at l ++ text ++ t) past-is;
-      long = omega (arith, length-append (take at l) (bytes ++ past), length-append bytes past, length-take-le at l (omega arith), length-drop k (drop at l), length-drop at l);
-    }
+next : {a b s : List ℕ} {i : ℕ} (k x : ℕ) → Wrote a i s b (i + k) → i + k < length a → Wrote a i (s ++ (x ∷ [])) (set b (i + k) x) (i + suc k)
+next {a} {b} {s} {i} k x w h =
+    let e : i + k + 1 ≡ i + suc k = omega arith in
+    subst (λ m. Wrote a i (s ++ (x ∷ [])) (set b (i + k) x) m) e (then w (byte b (i + k) x (omega (arith, w.long))))
+
+-- the first eight of some bytes, from a place on
+abbrev pub with_eight : List ℕ → ℕ → List ℕ → List ℕ
+with_eight l at bytes =
+    set (set (set (set (set (set (set (set l
+    at (get_or bytes 0 0))
+    (at + 1) (get_or bytes 1 0))
+    (at + 2) (get_or bytes 2 0))
+    (at + 3) (get_or bytes 3 0))
+    (at + 4) (get_or bytes 4 0))
+    (at + 5) (get_or bytes 5 0))
+    (at + 6) (get_or bytes 6 0))
+    (at + 7) (get_or bytes 7 0)
+
+put-eight : (l : List ℕ) (at w : ℕ) → at + 8 ≤ length l → Put l at (w ∷ []) (with_eight l at (bytes_of 8 w))
+unfolding in_bytes bytes_of
+put-eight l at w h =
+    let a = byte l at (w % 256) (omega arith) in
+    let b = next 1 (w / 256 % 256) a (omega arith) in
+    let c = next 2 (w / 256 / 256 % 256) b (omega arith) in
+    let d = next 3 (w / 256 / 256 / 256 % 256) c (omega arith) in
+    let e = next 4 (w / 256 / 256 / 256 / 256 % 256) d (omega arith) in
+    let f = next 5 (w / 256 / 256 / 256 / 256 / 256 % 256) e (omega arith) in
+    let g = next 6 (w / 256 / 256 / 256 / 256 / 256 / 256 % 256) f (omega arith) in
+    let r = next 7 (w / 256 / 256 / 256 / 256 / 256 / 256 / 256 % 256) g (omega arith) in
+    record { holds = r.holds; long = r.long }
+
+pub put-word : (l : List ℕ) (at w : ℕ) {bytes : List ℕ} → bytes ≡ to_le_bytes w64 w → at + 8 ≤ length l → Put l at (w ∷ []) (with_eight l at bytes)
+put-word l at w e h = subst (λ bytes. Put l at (w ∷ []) (with_eight l at bytes)) (sym (e ∙ word-written w)) (put-eight l at w h)

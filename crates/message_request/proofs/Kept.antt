@@ -1,13 +1,14 @@
 -- The points of a request one after another, and the room that their numbers fill from its start.
-use Rattle.std.proofs.Common.{◌≡◌, ℕ, zero, suc, ◌+◌, ◌-◌, ◌/◌, ◌≤◌, ◌<◌, List, ◌++◌, length, take, drop, refl, sym, ◌∙◌, ap, arith, append-nil, append_assoc}
-use Rattle.std.specs.Prelude.{Option, Some, None, Ok, Err, ℤ}
+use Rattle.std.proofs.Common.{◌≡◌, ℕ, zero, suc, ◌+◌, ◌-◌, ◌/◌, ◌≤◌, ◌<◌, List, ◌++◌, length, take, drop, refl, sym, ◌∙◌, ap, subst, arith, append-nil, append_assoc}
+use Rattle.std.specs.Prelude.{Option, Some, None, IfSome, ℤ}
 use Rattle.std.proofs.Math.ListN.{take-append-drop}
 use Rattle.std.proofs.Math.Seq.{paste, take-paste, drop-paste, length-paste, take_all, drop-drop, length-take-le}
 use borrow.Author.Tests.{lt-ltb, le-ltb}
 use Rattle.message_request.specs.declared.Unread.{Unread}
 use Rattle.message_request.specs.declared.Unread.TheVariants.{Line, Full}
-use Rattle.message_request.specs.Lines.{line_number, wanted}
+use Rattle.message_request.specs.Lines.{line_number}
 use Rattle.message_request.specs.Points.{point_at, Kept, nothing, going_on, kept_from, points_of, over}
+use Rattle.message_request.proofs.Numbers.{twelve}
 
 -- ---- from a place on
 
@@ -32,17 +33,6 @@ module _ (text : List ℕ) (at : ℕ) where
           ≡ record { numbers = values ++ (kept_from most text next).numbers; unread = (kept_from most text next).unread }
       unfolding kept_from going_on
       a_point most = rw (lt-ltb at (length text) h, e) refl
-
--- ---- what is wanted at a place, by what was read there
-
-module _ {A : Type 0} (text : List ℕ) (at : ℕ) where
-  pub was_there : {o : Option A} {x : A} → Ok x ≡ wanted text at o → o ≡ Some x
-  was_there {o = None} e = cc
-  was_there {o = Some y} e = cc
-
-  pub was_wanting : {o : Option A} {u : Unread} → Err u ≡ wanted text at o → (o ≡ None) × (Line (line_number text at) ≡ u)
-  was_wanting {o = None} e = (refl, cc)
-  was_wanting {o = Some y} e = absurd (cc)
 
 -- ---- in a room: so many numbers are kept, and what is left to read gives the rest
 
@@ -86,14 +76,14 @@ module _ (text : List ℕ) (start : ℕ) {room numbers : List ℤ} {count at : �
         ∙ ap (λ ns. whole.numbers ++ ns) t.behind
         ∙ ap (λ n. whole.numbers ++ drop n room) (sym size)
 
-    pub counted : unread ≡ None → Ok count ≡ points_of whole
-    counted n = rw (t.ends ∙ ap (λ k. k.unread) e ∙ n, size) refl
-
-    pub unread_by : {u : Unread} → unread ≡ Some u → Err u ≡ points_of whole
-    unread_by n = rw (t.ends ∙ ap (λ k. k.unread) e ∙ n) refl
+    pub counted : ◌≡◌ {A = ℕ × Option Unread} (count, unread) (points_of whole)
+    counted = rw (t.ends ∙ ap (λ k. k.unread) e, size) refl
 
   -- one point more is kept
-  module _ (h : at < length text) (values : List ℤ) (next : ℕ) (e : point_at text at ≡ Some (values, next)) (size : length values ≡ 12) (r : count + 12 ≤ length room) where
+  module _ (h : at < length text) (values : List ℤ) (next : ℕ) (e : point_at text at ≡ Some (values, next)) (r : count + 12 ≤ length room) where
+    pub size-of : length values ≡ 12
+    size-of = let P : Option (List ℤ × ℕ) → Type 0 = λ o. IfSome o (λ (w : List ℤ × ℕ). length w.0 ≡ 12) in subst P e (twelve text at)
+
     fewer : left ≡ suc ((length room - (count + 12)) / 12)
     fewer = omega arith
 
@@ -106,6 +96,7 @@ module _ (text : List ℕ) (start : ℕ) {room numbers : List ℤ} {count at : �
 
     pub one_more : {after : List ℤ} → after ≡ paste numbers count values 12 → Taking text start room after (count + 12) next
     one_more {after} p =
+        let size : length values ≡ 12 = size-of in
         let m = (length room - (count + 12)) / 12 in
         let front : take (count + 12) after ≡ take count numbers ++ values =
         ap (take (count + 12)) p

@@ -1,17 +1,15 @@
 -- What the names of a request and the value of an edition are of the text: each is a part of it, whatever the text is.
 use Rattle.std.proofs.Common.{◌≡◌, ℕ, ◌+◌, ◌≤◌, ◌<◌, Bool, true, false, List, [], ◌∷◌, length, drop, refl, arith, length-drop}
-use Rattle.std.specs.Prelude.{Option, Some, None, Result, Ok, Err, IfOk, IfSome, cond, eqb, position, unwrap_or, option_and_then}
+use Rattle.std.specs.Prelude.{Option, Some, None, Result, Ok, IfOk, IfSome, cond, eqb, position, unwrap_or, option_and_then}
 use Rattle.std.specs.List.{starts_with}
 use Rattle.std.proofs.lemmas.List.Quantifiers.{position-Some}
 use Rattle.text.specs.Numbers.{ascii}
 use Rattle.message_request.specs.declared.Rest.{Rest}
 use Rattle.message_request.specs.declared.Names.{Names}
-use Rattle.message_request.specs.declared.Settings.{Settings}
 use Rattle.message_request.specs.declared.Asked.{Asked}
 use Rattle.message_request.specs.declared.Unread.{Unread}
-use Rattle.message_request.specs.Lines.{is_newline, past_word, line_end, rest_line, wanted, rest_in}
-use Rattle.message_request.specs.Requests.{◌>>=◌, version_from, version_line, names_in, settings_in, head_in, kept_in, asked_in}
-use Rattle.message_request.specs.Points.{read_by}
+use Rattle.message_request.specs.Lines.{is_newline, past_word, line_end, begun, rest_line, no_rest, rest_in}
+use Rattle.message_request.specs.Requests.{version_from, version_line, names_in, settings_in, kept_in, asked_by, asked_in}
 use Rattle.message_request.specs.Within.{Within, AllWithin}
 
 -- ---- where a word stands, and where its line ends
@@ -40,89 +38,77 @@ end-within text from h = by (position is_newline (drop from text)) refl
 
 -- a word of some bytes, and the rest of its line
 module _ (text : List ℕ) (at : ℕ) (word : List ℕ) (some : 0 < length word) {from : ℕ} (e : past_word text at word ≡ Some from) where
-  pub part-within : Within text (record { from = from; end = line_end text from })
-  part-within =
+  pub part-within : (next : Result ℕ ℕ) → Within text (record { from = from; end = line_end text from; next = next })
+  part-within next =
       let (p, q) = word-within text at word e in
       let r : from ≤ length text = omega (arith, length-drop at text) in
       let (s, t) = end-within text from r in
       record { starts = s; ends = t }
 
-rest-within : (text : List ℕ) (at : ℕ) (word : List ℕ) → 0 < length word → IfOk (rest_in text at word) (λ (r : Rest × ℕ). Within text r.0)
-unfolding rest_in rest_line
-rest-within text at word some = by (past_word text at word) refl
-  where
-    ended : (from : ℕ) → past_word text at word ≡ Some from → (o : Option ℕ)
-        → IfOk (wanted text at (option_and_then {U = Rest × ℕ} (λ (next : ℕ). Some (record { from = from; end = line_end text from }, next)) o)) (λ (r : Rest × ℕ). Within text r.0)
-    ended from e None = tt
-    ended from e (Some next) = part-within text at word some e
+-- ---- a line at any place: what follows its word, or an empty part
 
-    by : (o : Option ℕ) → past_word text at word ≡ o
-        → IfOk (wanted text at (option_and_then {U = Rest × ℕ} (λ (from : ℕ). option_and_then {U = Rest × ℕ} (λ (next : ℕ). Some (record { from = from; end = line_end text from }, next)) (past_word text (line_end text from) (ascii "\n"))) o)) (λ (r : Rest × ℕ). Within text r.0)
-    by None e = tt
-    by (Some from) e = ended from e (past_word text (line_end text from) (ascii "\n"))
+from-below : (text : List ℕ) (from : ℕ) → from ≤ line_end text from
+unfolding line_end
+from-below text from = omega arith
+
+-- a newline stands within the text
+newline-within : (text : List ℕ) (end : ℕ) {next : ℕ} → past_word text end (ascii "\n") ≡ Some next → end ≤ length text
+unfolding ascii
+newline-within text end e = let (p, q) = word-within text end (ascii "\n") e in omega (arith, q, length-drop end text)
+
+module _ (text : List ℕ) (place : Result ℕ ℕ) where
+  abbrev rest : ℕ → ℕ → Option Rest
+  rest from next = Some (record { from = from; end = line_end text from; next = Ok next })
+
+  none_within : Within text (no_rest place)
+  none_within = record { starts = omega arith; ends = omega arith }
+
+  ended-within : (from : ℕ) (next : Option ℕ) → past_word text (line_end text from) (ascii "\n") ≡ next
+      → Within text (unwrap_or (option_and_then {U = Rest} (λ (next : ℕ). rest from next) next) (no_rest place))
+  ended-within from None e = none_within
+  ended-within from (Some next) e = record { starts = from-below text from; ends = newline-within text (line_end text from) e }
+
+  begun-within : (from : Option ℕ)
+      → Within text (unwrap_or (option_and_then {U = Rest} (λ (from : ℕ). option_and_then {U = Rest} (λ (next : ℕ). rest from next) (past_word text (line_end text from) (ascii "\n"))) from) (no_rest place))
+  begun-within None = none_within
+  begun-within (Some from) = ended-within from (past_word text (line_end text from) (ascii "\n")) refl
+
+  rest-within : (word : List ℕ) → Within text (rest_in text place word)
+  unfolding rest_in rest_line
+  rest-within word = begun-within (begun text place word)
 
 -- ---- the names
 
-abbrev NamesWithin : List ℕ → Result (Names × ℕ) Unread → Type 0
-NamesWithin text read = IfOk read (λ (n : Names × ℕ). AllWithin text n.0)
-
-line-then : (text : List ℕ) (at : ℕ) (word : List ℕ) → 0 < length word → (next : Rest × ℕ → Result (Names × ℕ) Unread)
-    → ((r : Rest × ℕ) → Within text r.0 → NamesWithin text (next r)) → NamesWithin text (rest_in text at word >>= next)
-line-then text at word some next h = by (rest_in text at word) (rest-within text at word some)
-  where
-    by : (r : Result (Rest × ℕ) Unread) → IfOk r (λ (r : Rest × ℕ). Within text r.0) → NamesWithin text (r >>= next)
-    by (Ok x) p = h x p
-    by (Err u) p = tt
-
-pub names-within : (text : List ℕ) (from : ℕ) → IfOk (names_in text from) (λ (n : Names × ℕ). AllWithin text n.0)
-unfolding names_in ascii
+pub names-within : (text : List ℕ) (from : Result ℕ ℕ) → AllWithin text (names_in text from)
+unfolding names_in
 names-within text from =
-    line-then text from (ascii "created ") (omega arith) _ (λ created a.
-    line-then text created.1 (ascii "originator ") (omega arith) _ (λ originator b.
-    line-then text originator.1 (ascii "object ") (omega arith) _ (λ object c.
-    line-then text object.1 (ascii "id ") (omega arith) _ (λ id d.
-    line-then text id.1 (ascii "center ") (omega arith) _ (λ center e.
-    line-then text center.1 (ascii "frame ") (omega arith) _ (λ frame f.
-    line-then text frame.1 (ascii "start ") (omega arith) _ (λ start g.
-    record { created = a; originator = b; object = c; id = d; center = e; frame = f; start = g })))))))
+    record {
+      created = rest-within text _ _;
+      originator = rest-within text _ _;
+      object = rest-within text _ _;
+      id = rest-within text _ _;
+      center = rest-within text _ _;
+      frame = rest-within text _ _;
+      start = rest-within text _ _;
+    }
 
--- ---- what a text asks for
+-- ---- what a text asks for: its names are parts of the text, and so many numbers are kept
 
-abbrev head : Names → Settings × ℕ → Result (Names × Settings × ℕ) Unread
-head names s = Ok (names, s.0, s.1)
-
-head-within : (text : List ℕ) (from : Result ℕ Unread) → IfOk (head_in text from) (λ (h : Names × Settings × ℕ). AllWithin text h.0)
-unfolding head_in
-head-within text (Err u) = tt
-head-within text (Ok at) = by (names_in text at) (names-within text at)
-  where
-    settled : (names : Names) → AllWithin text names → (s : Result (Settings × ℕ) Unread)
-        → IfOk (s >>= head names) (λ (h : Names × Settings × ℕ). AllWithin text h.0)
-    settled names p (Err u) = tt
-    settled names p (Ok s) = p
-
-    by : (n : Result (Names × ℕ) Unread) → NamesWithin text n
-        → IfOk (n >>= (λ (n : Names × ℕ). settings_in text n.1 >>= head n.0)) (λ (h : Names × Settings × ℕ). AllWithin text h.0)
-    by (Err u) p = tt
-    by (Ok n) p = settled n.0 p (settings_in text n.1)
-
--- its names are parts of the text, and so many numbers are kept
-pub asked-within : (text : List ℕ) (from : Result ℕ Unread) (room : ℕ)
+pub asked-within : (text : List ℕ) (from : Result ℕ ℕ) (room : ℕ)
     → IfOk (asked_in text from room) (λ (asked : Asked). (AllWithin text asked.names) × (asked.count ≡ length (kept_in text from room).numbers))
 unfolding asked_in
-asked-within text from room = by (head_in text from) (head-within text from) (kept_in text from room).unread
+asked-within text from room = by (kept_in text from room).unread
   where
-    counted : (names : Names) (settings : Settings) → AllWithin text names → (unread : Option Unread)
-        → IfOk (read_by unread (length (kept_in text from room).numbers) >>= (λ (count : ℕ). Ok (record { names = names; settings = settings; count = count })))
-        (λ (asked : Asked). (AllWithin text asked.names) × (asked.count ≡ length (kept_in text from room).numbers))
-    counted names settings p None = (p, refl)
-    counted names settings p (Some u) = tt
+    names : Names
+    names = names_in text from
 
-    by : (h : Result (Names × Settings × ℕ) Unread) → IfOk h (λ (h : Names × Settings × ℕ). AllWithin text h.0) → (unread : Option Unread)
-        → IfOk (h >>= (λ (h : Names × Settings × ℕ). read_by unread (length (kept_in text from room).numbers) >>= (λ (count : ℕ). Ok (record { names = h.0; settings = h.1; count = count }))))
-        (λ (asked : Asked). (AllWithin text asked.names) × (asked.count ≡ length (kept_in text from room).numbers))
-    by (Err u) p unread = tt
-    by (Ok h) p unread = counted h.0 h.1 p unread
+    count : ℕ
+    count = length (kept_in text from room).numbers
+
+    by : (unread : Option Unread)
+        → IfOk (asked_by names (settings_in text names.start.next) count unread) (λ (asked : Asked). (AllWithin text asked.names) × (asked.count ≡ count))
+    by None = (names-within text from, refl)
+    by (Some unread) = tt
 
 -- ---- the value of an edition
 
@@ -132,4 +118,4 @@ version-within text = by (past_word text 0 (ascii "edition ")) refl
   where
     by : (o : Option ℕ) → past_word text 0 (ascii "edition ") ≡ o → IfSome (version_from text o).value (Within text)
     by None e = tt
-    by (Some from) e = part-within text 0 (ascii "edition ") (omega arith) e
+    by (Some from) e = part-within text 0 (ascii "edition ") (omega arith) e _

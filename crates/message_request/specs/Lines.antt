@@ -1,11 +1,9 @@
 -- A line of a request: a word, and what follows it. Places are counted from 0; what may not be there is `None`. Definitions only.
-use Rattle.std.specs.Prelude.{ℕ, ◌+◌, Bool, cond, List, eqb, length, take, drop, count_by, position, unwrap_or, Option, Some, None, Result, option_and_then, ok_or}
+use Rattle.std.specs.Prelude.{ℕ, ◌+◌, Bool, cond, List, eqb, length, take, drop, count_by, position, unwrap_or, Option, Some, None, Result, option_and_then, Ok, Err}
 use Rattle.std.specs.List.{starts_with}
 use Rattle.text.specs.Numbers.{ascii}
 use Rattle.text.specs.Reading.{decimal_at}
 use Rattle.message_request.specs.declared.Rest.{Rest}
-use Rattle.message_request.specs.declared.Unread.{Unread}
-use Rattle.message_request.specs.declared.Unread.TheVariants.{Line}
 
 -- what is read after something that may not be there
 infixl 10 ◌>>=◌
@@ -29,30 +27,38 @@ line_end text from = from + unwrap_or (position is_newline (drop from text)) (le
 unfoldable pub line_number : List ℕ → ℕ → ℕ
 line_number text at = 1 + count_by is_newline (take at text)
 
--- ---- a line at a place, and the place past it
+-- ---- a line that has to stand at a place: `Ok` the place past lines that are as they have to be, `Err` the place of a line that is not
+
+-- the place past the word that the line begins with; no line is read at a fault
+unfoldable pub begun : List ℕ → Result ℕ ℕ → List ℕ → Option ℕ
+begun text (Ok at) word = past_word text at word
+begun text (Err at) word = None
+
+-- the same place, at fault
+abbrev pub stopped_at : Result ℕ ℕ → Result ℕ ℕ
+stopped_at (Ok at) = Err at
+stopped_at (Err at) = Err at
 
 -- a word and the rest as it stands, up to the newline
-unfoldable pub rest_line : List ℕ → ℕ → List ℕ → Option (Rest × ℕ)
-rest_line text at word = do
-  from ← past_word text at word
+unfoldable pub rest_line : List ℕ → Result ℕ ℕ → List ℕ → Option Rest
+rest_line text place word = do
+  from ← begun text place word
   next ← past_word text (line_end text from) (ascii "\n")
-  Some (record { from = from; end = line_end text from }, next)
+  Some (record { from = from; end = line_end text from; next = Ok next })
 
--- a word and a natural, which the newline follows
-unfoldable pub natural_line : List ℕ → ℕ → List ℕ → Option (ℕ × ℕ)
-natural_line text at word = do
-  from ← past_word text at word
+abbrev pub no_rest : Result ℕ ℕ → Rest
+no_rest place = record { from = 0; end = 0; next = stopped_at place }
+
+unfoldable pub rest_in : List ℕ → Result ℕ ℕ → List ℕ → Rest
+rest_in text place word = unwrap_or (rest_line text place word) (no_rest place)
+
+-- a word and a natural, which the newline follows; and where the next line stands
+unfoldable pub natural_line : List ℕ → Result ℕ ℕ → List ℕ → Option (ℕ × Result ℕ ℕ)
+natural_line text place word = do
+  from ← begun text place word
   (value, end) ← decimal_at text from
   next ← past_word text end (ascii "\n")
-  Some (value, next)
+  Some (value, Ok next)
 
--- ---- a line that has to stand at a place; where it does not, its number
-
-abbrev pub wanted : {A : Type 0} → List ℕ → ℕ → Option A → Result A Unread
-wanted text at read = ok_or read (Line (line_number text at))
-
-unfoldable pub rest_in : List ℕ → ℕ → List ℕ → Result (Rest × ℕ) Unread
-rest_in text at word = wanted text at (rest_line text at word)
-
-unfoldable pub natural_in : List ℕ → ℕ → List ℕ → Result (ℕ × ℕ) Unread
-natural_in text at word = wanted text at (natural_line text at word)
+unfoldable pub natural_in : List ℕ → Result ℕ ℕ → List ℕ → ℕ × Result ℕ ℕ
+natural_in text place word = unwrap_or (natural_line text place word) (0, stopped_at place)

@@ -1,5 +1,5 @@
 -- The points of a request: lines that are `point` and twelve wholes, each after one space. Definitions only.
-use Rattle.std.specs.Prelude.{ℕ, zero, suc, cond, List, [], ◌∷◌, ◌++◌, ltb, ℤ, length, drop, Option, Some, None, Result, Ok, Err}
+use Rattle.std.specs.Prelude.{ℕ, zero, suc, ◌/◌, cond, List, [], ◌∷◌, ◌++◌, ltb, ℤ, length, drop, Option, Some, None, Result, Ok, Err}
 use Rattle.text.specs.Numbers.{ascii}
 use Rattle.text.specs.Reading.{signed_at}
 use Rattle.message_request.specs.declared.Unread.{Unread}
@@ -60,13 +60,14 @@ kept_from (suc most) text at =
     let more = kept_from most text next in
     record { numbers = values ++ more.numbers; unread = more.unread })
 
--- how many numbers are kept of a text that is read to its end
-abbrev pub read_by : Option Unread → ℕ → Result ℕ Unread
-read_by None count = Ok count
-read_by (Some unread) count = Err unread
+-- past lines that are as they have to be, where so many numbers can be kept
+unfoldable pub kept_at : List ℕ → Result ℕ ℕ → ℕ → Kept
+kept_at text (Ok at) room = kept_from (room / 12) text at
+kept_at text (Err at) room = nothing (Some (Line (line_number text at)))
 
-abbrev pub points_of : Kept → Result ℕ Unread
-points_of kept = read_by kept.unread (length kept.numbers)
+-- how many numbers are kept, and why the reading ends before the text
+abbrev pub points_of : Kept → ℕ × Option Unread
+points_of kept = (length kept.numbers, kept.unread)
 
 -- the room afterwards: the numbers that are kept, and behind them what was there
 abbrev pub over : Kept → List ℤ → List ℤ

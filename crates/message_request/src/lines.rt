@@ -1,8 +1,8 @@
 // The lines of a text: where a word stands, where a line ends, and a line read as a word and what follows it.
 ghost use Rattle.std.specs.Prelude.{◌≡◌, drop, position};
-ghost use Rattle.message_request.specs.Lines.{is_newline, past_word, line_end, line_number, rest_line, natural_line, wanted, rest_in, natural_in};
+ghost use Rattle.message_request.specs.Lines.{is_newline, past_word, line_end, line_number, begun, stopped_at, rest_line, natural_line, rest_in, natural_in};
 
-use crate::{Rest, Unread};
+use crate::Rest;
 use text::read_decimal;
 
 // The bytes from a place on; none where the text is over before it.
@@ -49,47 +49,68 @@ pub(crate) fn line_number(text: &[u8], at: usize) -> u64
     1 + before.iter().filter(|b| **b == b'\n').count() as u64
 }
 
-// What was read at a place, where its line is as it has to be.
-pub(crate) fn wanted<T: Copy>(text: &[u8], at: usize, read: Option<T>) -> Result<T, Unread>
-    ensures { result ≡ wanted text.now at read }
+// The place past the word that a line begins with; no line is read at a fault.
+#[tactic(auto, unfolding(crate::specs::Lines::begun))]
+fn begun(text: &[u8], place: Result<usize, usize>, word: &[u8]) -> Option<usize>
+    ensures { result ≡ begun text.now place word.now }
 {
-    match read {
-        Some(read) => Ok(read),
-        None => Err(Unread::Line(line_number(text, at))),
+    past_word(text, place.ok()?, word)
+}
+
+// The same place, at fault.
+fn stopped_at(place: Result<usize, usize>) -> Result<usize, usize>
+    ensures { result ≡ stopped_at place }
+{
+    match place {
+        Ok(at) | Err(at) => Err(at),
     }
 }
 
-// A line that is a word and the rest as it stands, and the place past it.
+// A line that is a word and the rest as it stands.
 #[tactic(auto, unfolding(crate::specs::Lines::rest_line, text::specs::Numbers::ascii))]
-fn rest_line(text: &[u8], at: usize, word: &[u8]) -> Option<(Rest, usize)>
-    ensures { result ≡ rest_line text.now at word.now }
+fn rest_line(text: &[u8], place: Result<usize, usize>, word: &[u8]) -> Option<Rest>
+    ensures { result ≡ rest_line text.now place word.now }
 {
-    let from = past_word(text, at, word)?;
+    let from = begun(text, place, word)?;
     let end = line_end(text, from);
-    let next = past_word(text, end, b"\n")?;
-    Some((Rest { from, end }, next))
+    let next = Ok(past_word(text, end, b"\n")?);
+    Some(Rest { from, end, next })
 }
 
+// Where no such line stands, an empty rest.
 #[tactic(auto, unfolding(crate::specs::Lines::rest_in))]
-pub(crate) fn read_rest(text: &[u8], at: usize, word: &[u8]) -> Result<(Rest, usize), Unread>
-    ensures { result ≡ rest_in text.now at word.now }
+pub(crate) fn read_rest(text: &[u8], place: Result<usize, usize>, word: &[u8]) -> Rest
+    ensures { result ≡ rest_in text.now place word.now }
 {
-    wanted(text, at, rest_line(text, at, word))
+    rest_line(text, place, word).unwrap_or(Rest {
+        from: 0,
+        end: 0,
+        next: stopped_at(place),
+    })
 }
 
-// A line that is a word and a natural, and the place past it.
+// A line that is a word and a natural, and where the next line stands.
 #[tactic(auto, unfolding(crate::specs::Lines::natural_line, text::specs::Numbers::ascii))]
-pub(crate) fn natural_line(text: &[u8], at: usize, word: &[u8]) -> Option<(u64, usize)>
-    ensures { result ≡ natural_line text.now at word.now }
+pub(crate) fn natural_line(
+    text: &[u8],
+    place: Result<usize, usize>,
+    word: &[u8],
+) -> Option<(u64, Result<usize, usize>)>
+    ensures { result ≡ natural_line text.now place word.now }
 {
-    let (value, end) = read_decimal(text, past_word(text, at, word)?)?;
-    let next = past_word(text, end, b"\n")?;
+    let (value, end) = read_decimal(text, begun(text, place, word)?)?;
+    let next = Ok(past_word(text, end, b"\n")?);
     Some((value, next))
 }
 
+// Where no such line stands, 0.
 #[tactic(auto, unfolding(crate::specs::Lines::natural_in))]
-pub(crate) fn read_natural(text: &[u8], at: usize, word: &[u8]) -> Result<(u64, usize), Unread>
-    ensures { result ≡ natural_in text.now at word.now }
+pub(crate) fn read_natural(
+    text: &[u8],
+    place: Result<usize, usize>,
+    word: &[u8],
+) -> (u64, Result<usize, usize>)
+    ensures { result ≡ natural_in text.now place word.now }
 {
-    wanted(text, at, natural_line(text, at, word))
+    natural_line(text, place, word).unwrap_or((0, stopped_at(place)))
 }

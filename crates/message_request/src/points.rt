@@ -1,9 +1,9 @@
 // The points of a request: lines of twelve wholes, whose numbers are kept in lent room.
 ghost use Rattle.std.specs.Prelude.{◌≡◌, ◌/◌, length};
-ghost use Rattle.message_request.specs.Points.{whole_at, wholes_at, point_at, kept_from, points_of, over};
+ghost use Rattle.message_request.specs.Points.{whole_at, wholes_at, point_at, kept_from, kept_at, points_of, over};
 
 use crate::Unread;
-use crate::lines::{past_word, wanted};
+use crate::lines::{line_number, past_word};
 use text::read_signed;
 
 // The number after one space at a place, and the place past it.
@@ -39,21 +39,39 @@ fn read_point(text: &[u8], at: usize) -> Option<([i64; 12], usize)>
     Some((values, next))
 }
 
-// The points from a place on, up to a line that is none or for which there is no room: how many numbers they have.
-// Each point says where the next line stands: no index is counted here.
-pub(crate) fn read_points(text: &[u8], start: usize, numbers: &mut [i64]) -> Result<usize, Unread>
+// The points from a place on, up to a line that is none or for which there is no room: how many numbers they have, and why the reading ends
+// before the text. Each point says where the next line stands: no index is counted here.
+fn read_from(text: &[u8], start: usize, numbers: &mut [i64]) -> (usize, Option<Unread>)
     ensures { (result ≡ points_of (kept_from (length numbers.old / 12) text.now start)) × (numbers.new ≡ over (kept_from (length numbers.old / 12) text.now start) numbers.old) }
 {
     let mut at = start;
     let mut count: usize = 0;
     while at < text.len() {
-        let (values, next) = wanted(text, at, read_point(text, at))?;
+        let Some(point) = read_point(text, at) else {
+            return (count, Some(Unread::Line(line_number(text, at))));
+        };
+        let (values, next) = point;
         if numbers.len() - count < 12 {
-            return Err(Unread::Full);
+            return (count, Some(Unread::Full));
         }
         numbers[count..count + 12].copy_from_slice(&values);
         count += 12;
         at = next;
     }
-    Ok(count)
+    (count, None)
+}
+
+// The points that stand past lines that are as they have to be.
+#[tactic(auto, unfolding(crate::specs::Points::kept_at))]
+pub(crate) fn read_points(
+    text: &[u8],
+    place: Result<usize, usize>,
+    numbers: &mut [i64],
+) -> (usize, Option<Unread>)
+    ensures { (result ≡ points_of (kept_at text.now place (length numbers.old))) × (numbers.new ≡ over (kept_at text.now place (length numbers.old)) numbers.old) }
+{
+    match place {
+        Ok(start) => read_from(text, start, numbers),
+        Err(at) => (0, Some(Unread::Line(line_number(text, at)))),
+    }
 }

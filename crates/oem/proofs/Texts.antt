@@ -5,14 +5,14 @@ use Rattle.std.proofs.Math.Seq.{take_at}
 use Rattle.std.proofs.lemmas.Result.{IfOk-at_ok}
 use Rattle.message.specs.declared.Edition.{Edition}
 use Rattle.message_request.specs.declared.Asked.{Asked}
-use Rattle.message_request.specs.declared.Unread.{Unread}
+use Rattle.message_request.specs.declared.NotAsked.{NotAsked}
 use Rattle.message_request.specs.declared.Version.{Version}
 use Rattle.message_request.specs.Requests.{version_line, kept_in, asked_in, numbers_after}
 use Rattle.message_request.specs.Within.{Within, AllWithin}
 use Rattle.message_request.proofs.Within.{version-within, asked-within}
 use Rattle.oem.specs.Answers.{edition_of, request_of, room_for, message_or, answer_by, answer_from, by_edition, answer_for}
 
-module _ (text : List ℕ) (from : Result ℕ Unread) (before : List ℤ) {after : List ℤ} (a : after ≡ numbers_after text from before) where
+module _ (text : List ℕ) (from : Result ℕ ℕ) (before : List ℤ) {after : List ℤ} (a : after ≡ numbers_after text from before) where
   abbrev kept : List ℤ
   kept = (kept_in text from (length before)).numbers
 
@@ -35,7 +35,7 @@ module _ (text : List ℕ) (from : Result ℕ Unread) (before : List ℤ) {after
     abbrev written : List ℤ → Asked → List ℕ
     written points asked = message_or edition (request_of text asked.names asked.settings points) (room_for asked.settings held)
 
-    pub by-read : {read : Result Asked Unread} → read ≡ asked_in text from (length before)
+    pub by-read : {read : Result Asked NotAsked} → read ≡ asked_in text from (length before)
         → answer_by read (length before / 12) (written kept) ≡ answer_from edition text from (length before) held
     unfolding answer_from
     by-read e = ap (λ read. answer_by read (length before / 12) (written kept)) e

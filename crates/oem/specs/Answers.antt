@@ -13,6 +13,7 @@ use Rattle.message_request.specs.declared.Rest.{Rest}
 use Rattle.message_request.specs.declared.Names.{Names}
 use Rattle.message_request.specs.declared.Settings.{Settings}
 use Rattle.message_request.specs.declared.Asked.{Asked}
+use Rattle.message_request.specs.declared.NotAsked.{NotAsked}
 use Rattle.message_request.specs.declared.Unread.{Unread}
 use Rattle.message_request.specs.declared.Unread.TheVariants.{Line, Full}
 use Rattle.message_request.specs.Requests.{version_line, asked_in, kept_in}
@@ -77,13 +78,17 @@ message_by (suc n) e r = refused_by (suc n)
 unfoldable pub message_or : Edition → M.Request → ℕ → List ℕ
 message_or e r room = message_by (refusal r room) e r
 
-abbrev pub answer_by : Result Asked Unread → ℕ → (Asked → List ℕ) → List ℕ
+-- why a text is not read
+abbrev pub told_by : Unread → ℕ → List ℕ
+told_by (Line line) most = flatten (line_with (ascii "line ") line (ascii ": not a request\n"))
+told_by Full most = flatten (line_with (ascii "more than ") most (ascii " points\n"))
+
+abbrev pub answer_by : Result Asked NotAsked → ℕ → (Asked → List ℕ) → List ℕ
 answer_by (Ok asked) most written = written asked
-answer_by (Err (Line line)) most written = flatten (line_with (ascii "line ") line (ascii ": not a request\n"))
-answer_by (Err Full) most written = flatten (line_with (ascii "more than ") most (ascii " points\n"))
+answer_by (Err refused) most written = told_by refused.unread most
 
 -- to the lines from a place on, where so many numbers can be kept, and so many bytes are held for the message
-unfoldable pub answer_from : Edition → List ℕ → Result ℕ Unread → ℕ → ℕ → List ℕ
+unfoldable pub answer_from : Edition → List ℕ → Result ℕ ℕ → ℕ → ℕ → List ℕ
 answer_from e text from room held =
     answer_by (asked_in text from room) (room / 12) (λ asked.
     message_or e (request_of text asked.names asked.settings (kept_in text from room).numbers) (room_for asked.settings held))

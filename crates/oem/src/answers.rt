@@ -3,7 +3,7 @@ ghost use Rattle.std.specs.Prelude.{◌≡◌, ◌+◌, ◌≤◌, length, IfSom
 ghost use mathlib.Core.List.{flatten};
 ghost use Rattle.message.specs.Answer.{answer_as, room_as};
 ghost use Rattle.message_request.specs.Within.{Within, AllWithin};
-ghost use Rattle.oem.specs.Answers.{Says, line_with, part_of, edition_named, edition_of, request_of, room_for, message_or, answer_from, answer_for};
+ghost use Rattle.oem.specs.Answers.{Says, line_with, part_of, edition_named, edition_of, request_of, room_for, message_or, told_by, answer_from, answer_for};
 
 use calendar::same;
 use message::{Edition, Request, Written};
@@ -122,11 +122,23 @@ fn answer_request(
     put_line(out, b"refused ", written.number as u64, b"\n")
 }
 
+// Why the text is not read, in one line.
+#[tactic(auto, unfolding(text::specs::Numbers::ascii))]
+fn put_refusal(out: &mut [u8], unread: Unread, most: u64) -> usize
+    requires { 64 ≤ length out.old }
+    ensures { Says out.new result (told_by unread most) }
+{
+    match unread {
+        Unread::Line(line) => put_line(out, b"line ", line, b": not a request\n"),
+        Unread::Full => put_line(out, b"more than ", most, b" points\n"),
+    }
+}
+
 // The answer to the lines from a place on.
 fn answer_from(
     edition: Edition,
     text: &[u8],
-    from: Result<usize, Unread>,
+    from: Result<usize, usize>,
     numbers: &mut [i64],
     out: &mut [u8],
 ) -> usize
@@ -136,8 +148,7 @@ fn answer_from(
     let most = (numbers.len() / 12) as u64;
     match message_request::read_request(text, from, numbers) {
         Ok(asked) => answer_request(out, edition, text, asked, &numbers[..asked.count]),
-        Err(Unread::Line(line)) => put_line(out, b"line ", line, b": not a request\n"),
-        Err(Unread::Full) => put_line(out, b"more than ", most, b" points\n"),
+        Err(refused) => put_refusal(out, refused.unread, most),
     }
 }
 

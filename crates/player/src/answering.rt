@@ -56,7 +56,7 @@ fn answer_open(out: &mut [u8], at: usize, s: Session, line: &[u8]) -> Option<Ans
 {
     let mut words = Words::new(line, 4);
     match script::read_open(&mut words) {
-        Some(call) if words.is_over() => {
+        Ok(call) if words.is_over() => {
             let after = calls::open(s, &call);
             let answer = answers::opening_answer(after.answer);
             Some(put_answer(out, at, b"open", answer, after.session))
@@ -71,7 +71,7 @@ fn answer_start(out: &mut [u8], at: usize, s: Session, line: &[u8]) -> Option<An
 {
     let mut words = Words::new(line, 5);
     match script::read_open(&mut words) {
-        Some(call) if words.is_over() => {
+        Ok(call) if words.is_over() => {
             Some(put_round(out, at, b"start", calls::start(s, &call)))
         }
         _ => None,
@@ -84,7 +84,7 @@ fn answer_refine(out: &mut [u8], at: usize, s: Session, line: &[u8]) -> Option<A
 {
     let mut words = Words::new(line, 6);
     match script::read_floats(&mut words) {
-        Some(floats) if words.is_over() => {
+        Ok(floats) if words.is_over() => {
             Some(put_round(out, at, b"refine", calls::refine(s, &floats)))
         }
         _ => None,
@@ -106,7 +106,7 @@ fn answer_correct(out: &mut [u8], at: usize, s: Session, line: &[u8]) -> Option<
 {
     let mut words = Words::new(line, 7);
     match script::read_sample(&mut words) {
-        Some(sample) if words.is_over() => {
+        Ok(sample) if words.is_over() => {
             let after = stepper::owned::correct(s, sample);
             let answer = answers::correction_answer(after.answer);
             Some(put_answer(out, at, b"correct", answer, after.session))
@@ -131,7 +131,7 @@ fn answer_why(out: &mut [u8], at: usize, s: Session, line: &[u8]) -> Option<Answ
 {
     let mut words = Words::new(line, 3);
     match script::read_sample(&mut words) {
-        Some(sample) if words.is_over() => {
+        Ok(sample) if words.is_over() => {
             let mut w = Writer::at(out, at);
             script::put_why(&mut w, reasons::explain(s, sample));
             let end = w.place();
@@ -166,7 +166,7 @@ fn answer_load(out: &mut [u8], at: usize, s: Session, line: &[u8]) -> Option<Ans
 {
     let mut words = Words::new(line, 4);
     match script::read_load(&mut words) {
-        Some(read) if words.is_over() => {
+        Ok(read) if words.is_over() => {
             let mut w = Writer::at(out, at);
             script::put_load(&mut w, read.number);
             let end = w.place();
@@ -187,7 +187,7 @@ fn filled(at: usize, line: &[u8]) -> Option<Answered>
 {
     let mut words = Words::new(line, 4);
     match script::read_session(&mut words) {
-        Some(session) if words.is_over() => Some(Answered {
+        Ok(session) if words.is_over() => Some(Answered {
             session,
             end: at,
             recorded: true,

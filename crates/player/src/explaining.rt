@@ -12,12 +12,12 @@ fn explain_correct(out: &mut [u8], at: usize, s: Session, line: &[u8], number: u
     ensures { result ≤ at + 3411 }
 {
     match script::read_sample(&mut Words::new(line, 7)) {
-        Some(sample) => {
+        Ok(sample) => {
             let mut w = Writer::at(out, at);
             sentences::put_sentence(&mut w, number, s, reasons::explain(s, sample));
             w.place()
         }
-        None => at,
+        Err(_) => at,
     }
 }
 

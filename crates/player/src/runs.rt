@@ -36,7 +36,7 @@ pub(crate) fn answer_run(out: &mut [u8], at: usize, s: Session, line: &[u8]) -> 
 {
     let mut words = Words::new(line, 3);
     match script::read_run(&mut words) {
-        Some(call) if words.is_over() => Some(put_run(out, at, run(s, &call))),
+        Ok(call) if words.is_over() => Some(put_run(out, at, run(s, &call))),
         _ => None,
     }
 }

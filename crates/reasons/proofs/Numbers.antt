@@ -4,6 +4,7 @@ use mathlib.Core.Bool.{Bool, true, false, cond}
 use mathlib.Core.List.{[], ◌∷◌}
 use Prim.Native.Nat.{ℕ}
 use Rattle.integers.specs.Tests.{fails}
+use Rattle.std.specs.Prelude.{Some}
 use Rattle.rules.specs.Rules.{NotZero, first_of, Gives}
 use Rattle.ticks.specs.declared.Fault.{Fault}
 use Rattle.ticks.specs.declared.Fault.TheVariants.{TooLarge, Infinite, NotANumber}
@@ -39,7 +40,7 @@ module _ (s : Session) (a : Sample) where
 -- ---- a sample: its fault is what is tested
 
 pub at-fault : (s : Session) (a : Sample) (f : Fault) →
-    explanation (fault_number f) 0 (first (has_fault f) named (axes_of a)) no_differences ≡ explained_by (fault_number f) (beside (fault_number f) (reasons_of s a)) s (whole_of a)
+    explanation (fault_number (Some f)) 0 (first (has_fault f) named (axes_of a)) no_differences ≡ explained_by (fault_number (Some f)) (beside (fault_number (Some f)) (reasons_of s a)) s (whole_of a)
 unfolding explained_by beside differences_with
 at-fault s a NotANumber = refl
 at-fault s a Infinite = refl

@@ -80,6 +80,9 @@ pub fn explain(s: Session, a: Sample) -> Explanation
     }
     match ticks::round_sample(a) {
         Ok(w) => explain_with(s, w),
-        Err(fault) => refused(fault_number(fault).number(), first_axis(fault, a)),
+        Err(sample) => refused(
+            fault_number(Some(sample.fault)),
+            first_axis(sample.fault, a),
+        ),
     }
 }

@@ -20,6 +20,8 @@ pub struct Spot {
 }
 
 // The spot behind one line of slot k, or the number of the line that is none.
+// Always inlined, so that a walk over comments keeps its spot in registers.
+#[inline(always)]
 fn pass_one(text: &[u8], edition: Edition, k: usize, from: Spot) -> Result<Spot, usize>
     requires { Inside text.now from }
     ensures ends { result ≡ spot_from from.at from.line (walk (one (form_of (slot_at edition k)) ∷ []) (lines_in (drop from.at text.now))) }

@@ -1,9 +1,9 @@
 -- Bytes as digits, two to a byte, the high one first: written, and read from a line. Definitions only.
-use Rattle.std.specs.Prelude.{ℕ, ◌+◌, ◌-◌, ◌*◌, cond, ltb, leb, get_or, length, Option, Some, None}
+use Rattle.std.specs.Prelude.{ℕ, ◌+◌, ◌-◌, ◌*◌, cond, ltb, leb, get_or, length, Option, Some, None, option_map}
 use mathlib.Core.List.{List, flatten, map}
 use Rattle.integers.specs.Tests.{◌and◌}
 use Rattle.text.specs.Numbers.{hex_digits}
-use Rattle.script.specs.Words.{Reader, ◌>>=◌, pure, given}
+use Rattle.script.specs.Words.{Reader, ◌>>=◌, is_there, from}
 
 -- ---- written
 
@@ -22,14 +22,16 @@ digit_of b =
     (cond (leb 97 b and leb b 102) (Some (b - 87))
     None)
 
--- the digit at a place
-unfoldable pub digit : Reader ℕ
-digit = do
-  b ← (λ p. cond (ltb p.at (length p.line)) (Some (get_or p.line p.at 0, record { line = p.line; at = p.at + 1 })) None)
-  given (digit_of b)
+-- the digit at a place of a line, and the place past it
+abbrev pub digit_at : List ℕ → ℕ → Option (ℕ × ℕ)
+digit_at line at = cond (ltb at (length line)) (option_map (λ d. (d, at + 1)) (digit_of (get_or line at 0))) None
 
+unfoldable pub digit : Reader ℕ
+digit = from 0 digit_at
+
+-- two digits; a byte that lacks one is missing
 unfoldable pub byte : Reader ℕ
 byte = do
   high ← digit
   low ← digit
-  pure (high * 16 + low)
+  λ p. cond (is_there p) (high * 16 + low, p) (0, p)

@@ -1,5 +1,5 @@
 -- The call that a line makes: its name, and the words that follow it. Definitions only.
-use Rattle.std.specs.Prelude.{ℕ, Bool, cond, List, [], ◌∷◌, ltb, eqb, Float, length, Option, Some, None, codes}
+use Rattle.std.specs.Prelude.{ℕ, Bool, cond, List, ltb, eqb, Float, length, Option, Some, None, codes}
 use Rattle.std.specs.Float.{binary64}
 use Rattle.std.specs.Float.Ieee.{of_bits}
 use Rattle.ticks.specs.declared.Sample.{Sample}
@@ -11,18 +11,18 @@ use Rattle.std.specs.Str.{bytes_eq}
 use Rattle.script.specs.declared.calls.Name.{Name}
 use Rattle.script.specs.declared.calls.Name.TheVariants.{Open, Predict, Correct, Withdraw, Fill, Start, Refine, Why, Save, Load, Run}
 use Rattle.script.specs.declared.calls.OpenCall.{OpenCall}
-use Rattle.script.specs.Words.{Reader, ◌>>=◌, ◌>>◌, pure, given, a_space, bits}
+use Rattle.script.specs.Words.{Reader, ◌>>=◌, ◌>>◌, lost, here, pure, a_space, bits}
 use Rattle.script.specs.Series.{series}
 use Rattle.script.specs.Bytes.{byte}
 use Rattle.script.specs.Records.{three, settings}
 
 -- ---- the name
 
-abbrev begins_with : List ℕ → List ℕ → Bool
+abbrev pub begins_with : List ℕ → List ℕ → Bool
 begins_with line word = starts_with eqb line word
 
 -- the line is the word, and no more
-abbrev is_word : List ℕ → List ℕ → Bool
+abbrev pub is_word : List ℕ → List ℕ → Bool
 is_word line word = bytes_eq line word
 
 -- the most bytes of a line
@@ -82,20 +82,20 @@ unfoldable pub opening : Reader OpenCall
 opening = do
   set ← settings
   start ← point
+  end ← here
   values ← floats most_floats
-  pure (record { settings = set; point = start; floats = values })
+  pure (record { settings = set; point = start; end = end; floats = values })
 
 -- the most bytes that a loading's word holds
 abbrev pub most_bytes : ℕ
 most_bytes = 2048
 
 -- the session that some bytes hold, or 14; no bytes are no word
-unfoldable pub loaded : List ℕ → Option Loaded
-loaded [] = None
-loaded (b ∷ bytes) = Some (read_of (b ∷ bytes))
+unfoldable pub loaded : List ℕ → Reader Loaded
+loaded bytes p = (read_of bytes, cond (eqb (length bytes) 0) (lost p) p)
 
 unfoldable pub load : Reader Loaded
 load = do
   a_space
   bytes ← series byte most_bytes
-  given (loaded bytes)
+  loaded bytes

@@ -28,7 +28,7 @@ unfoldable pub exactly : Reader Exact
 exactly = do
   whole ← integer
   n ← natural
-  part ← given (part_of n)
+  part ← given 0 (part_of n)
   pure (record { whole = whole; part = part })
 
 unfoldable pub motion : Reader Motion
@@ -66,7 +66,7 @@ state_of n =
 unfoldable pub state : Reader State
 state = do
   n ← natural
-  given (state_of n)
+  given Closed (state_of n)
 
 unfoldable pub tolerances : Reader Tolerances
 tolerances = do

@@ -1,6 +1,6 @@
 // The calls of a script, read from a line.
-ghost use Rattle.std.specs.Prelude.{◌≡◌};
-ghost use Rattle.script.specs.Words.{Reads};
+ghost use Rattle.std.specs.Prelude.{◌≡◌, ◌||◌};
+ghost use Rattle.script.specs.Words.{Reads, is_over, is_there};
 ghost use Rattle.script.specs.Calls.{bare_name, name_of, sample, point, floats, opening, loaded, load};
 
 use crate::pieces::{Settings, read_settings, read_three};
@@ -25,10 +25,12 @@ pub enum Name {
     Run,
 }
 
-#[derive(Drop)]
+#[derive(Clone, Copy)]
 pub struct OpenCall {
     pub settings: Settings,
     pub point: WholePoint,
+    // The place past the point; 0 where a word up to there is missing.
+    pub end: usize,
     pub floats: Series<f64, 64>,
 }
 
@@ -89,11 +91,9 @@ impl Piece for f64 {
 
     ghost reader = { float };
 
-    const NONE: f64 = 0.0;
-
     #[tactic(auto, unfolding(crate::specs::Calls::float))]
-    fn read(words: &mut Words<'_>) -> Option<f64> {
-        Some(float_of(words.bits()?))
+    fn read(words: &mut Words<'_>) -> f64 {
+        float_of(words.bits())
     }
 }
 
@@ -102,80 +102,94 @@ impl Piece for u8 {
 
     ghost reader = { byte };
 
-    const NONE: u8 = 0;
-
-    fn read(words: &mut Words<'_>) -> Option<u8> {
+    fn read(words: &mut Words<'_>) -> u8 {
         words.byte()
     }
 }
 
 // Floats up to the end of the line, N at most.
 #[tactic(auto, unfolding(crate::specs::Calls::floats))]
-pub fn read_floats<const N: usize>(words: &mut Words<'_>) -> Option<Series<f64, N>>
-    ensures { Reads (floats N words.old) result words.new }
+pub(crate) fn some_floats<const N: usize>(words: &mut Words<'_>) -> Series<f64, N>
+    ensures { floats N words.old ≡ (result, words.new) }
 {
     read_series(words)
 }
 
-#[tactic(auto, unfolding(crate::specs::Calls::point))]
-fn read_point(words: &mut Words<'_>) -> Option<WholePoint>
-    ensures { Reads (point words.old) result words.new }
+// The same alone; where the line is over none is missing.
+pub fn read_floats<const N: usize>(words: &mut Words<'_>) -> Result<Series<f64, N>, Series<f64, N>>
+    ensures { Reads (floats N words.old) (is_over words.old || is_there words.new) result words.new }
 {
-    let (x, y, z) = read_three(words)?;
-    let (vx, vy, vz) = read_three(words)?;
-    Some(WholePoint {
+    let over = words.is_over();
+    let floats = some_floats(words);
+    if over {
+        Ok(floats)
+    } else {
+        words.answer(floats)
+    }
+}
+
+#[tactic(auto, unfolding(crate::specs::Calls::point))]
+fn read_point(words: &mut Words<'_>) -> WholePoint
+    ensures { point words.old ≡ (result, words.new) }
+{
+    let (x, y, z) = read_three(words);
+    let (vx, vy, vz) = read_three(words);
+    WholePoint {
         x,
         y,
         z,
         vx,
         vy,
         vz,
-    })
+    }
 }
 
 // What follows the name of an opening or of a first round.
 #[tactic(auto, unfolding(crate::specs::Calls::opening))]
-pub fn read_open(words: &mut Words<'_>) -> Option<OpenCall>
-    ensures { Reads (opening words.old) result words.new }
+pub fn read_open(words: &mut Words<'_>) -> Result<OpenCall, OpenCall>
+    ensures { Reads (opening words.old) (is_there words.new) result words.new }
 {
-    let settings = read_settings(words)?;
-    let point = read_point(words)?;
-    let floats = read_floats(words)?;
-    Some(OpenCall {
+    let settings = read_settings(words);
+    let point = read_point(words);
+    let end = words.place();
+    let floats = some_floats(words);
+    words.answer(OpenCall {
         settings,
         point,
+        end,
         floats,
     })
 }
 
 // What follows the name of a correction or of a question why.
 #[tactic(auto, unfolding(crate::specs::Calls::sample))]
-pub fn read_sample(words: &mut Words<'_>) -> Option<Sample>
-    ensures { Reads (sample words.old) result words.new }
+pub fn read_sample(words: &mut Words<'_>) -> Result<Sample, Sample>
+    ensures { Reads (sample words.old) (is_there words.new) result words.new }
 {
-    let x = f64::read(words)?;
-    let y = f64::read(words)?;
-    let z = f64::read(words)?;
-    Some(Sample { x, y, z })
+    let x = f64::read(words);
+    let y = f64::read(words);
+    let z = f64::read(words);
+    words.answer(Sample { x, y, z })
 }
 
 // No bytes are no word.
 #[tactic(auto, unfolding(crate::specs::Calls::loaded))]
-fn loaded(bytes: &[u8]) -> Option<Loaded>
-    ensures { result ≡ loaded bytes.now }
+fn loaded(words: &mut Words<'_>, bytes: &[u8]) -> Loaded
+    ensures { loaded bytes.now words.old ≡ (result, words.new) }
 {
     if bytes.is_empty() {
-        return None;
+        words.lose();
     }
-    Some(image::read(bytes))
+    image::read(bytes)
 }
 
 // What follows the name of a loading: one word of digits.
 #[tactic(auto, unfolding(crate::specs::Calls::load))]
-pub fn read_load(words: &mut Words<'_>) -> Option<Loaded>
-    ensures { Reads (load words.old) result words.new }
+pub fn read_load(words: &mut Words<'_>) -> Result<Loaded, Loaded>
+    ensures { Reads (load words.old) (is_there words.new) result words.new }
 {
-    words.space()?;
-    let bytes = read_series::<u8, 2048>(words)?;
-    loaded(bytes.as_slice())
+    words.space();
+    let bytes = read_series::<u8, 2048>(words);
+    let read = loaded(words, bytes.as_slice());
+    words.answer(read)
 }

@@ -1,6 +1,6 @@
-// The pieces of a record, read one after another.
+// The pieces of a record, read one after another. What is missing is as 0.
 ghost use Rattle.std.specs.Prelude.{◌≡◌};
-ghost use Rattle.script.specs.Words.{Reads};
+ghost use Rattle.script.specs.Words.{Reads, is_there};
 ghost use Rattle.script.specs.Records.{three, part_of, exactly, motion, samples, axis, state_of, state, tolerances, settings, session};
 
 use crate::words::Words;
@@ -17,10 +17,10 @@ pub struct Settings {
 }
 
 #[tactic(auto, unfolding(crate::specs::Records::three))]
-pub(crate) fn read_three(words: &mut Words<'_>) -> Option<(i64, i64, i64)>
-    ensures { Reads (three words.old) result words.new }
+pub(crate) fn read_three(words: &mut Words<'_>) -> (i64, i64, i64)
+    ensures { three words.old ≡ (result, words.new) }
 {
-    Some((words.integer()?, words.integer()?, words.integer()?))
+    (words.integer(), words.integer(), words.integer())
 }
 
 #[tactic(auto, unfolding(crate::specs::Records::part_of))]
@@ -31,43 +31,44 @@ fn part_of(n: u64) -> Option<u32>
 }
 
 #[tactic(auto, unfolding(crate::specs::Records::exactly))]
-fn read_exact(words: &mut Words<'_>) -> Option<Exact>
-    ensures { Reads (exactly words.old) result words.new }
+fn read_exact(words: &mut Words<'_>) -> Exact
+    ensures { exactly words.old ≡ (result, words.new) }
 {
-    let whole = words.integer()?;
-    let part = part_of(words.natural()?)?;
-    Some(Exact { whole, part })
+    let whole = words.integer();
+    let n = words.natural();
+    let part = words.given(part_of(n), 0);
+    Exact { whole, part }
 }
 
 #[tactic(auto, unfolding(crate::specs::Records::motion))]
-fn read_motion(words: &mut Words<'_>) -> Option<Motion>
-    ensures { Reads (motion words.old) result words.new }
+fn read_motion(words: &mut Words<'_>) -> Motion
+    ensures { motion words.old ≡ (result, words.new) }
 {
-    let position = read_exact(words)?;
-    let velocity = read_exact(words)?;
-    Some(Motion { position, velocity })
+    let position = read_exact(words);
+    let velocity = read_exact(words);
+    Motion { position, velocity }
 }
 
 #[tactic(auto, unfolding(crate::specs::Records::samples))]
-fn read_samples(words: &mut Words<'_>) -> Option<[i64; 9]>
-    ensures { Reads (samples words.old) result words.new }
+fn read_samples(words: &mut Words<'_>) -> [i64; 9]
+    ensures { samples words.old ≡ (result, words.new) }
 {
-    let (a, b, c) = read_three(words)?;
-    let (d, e, f) = read_three(words)?;
-    let (g, h, i) = read_three(words)?;
-    Some([a, b, c, d, e, f, g, h, i])
+    let (a, b, c) = read_three(words);
+    let (d, e, f) = read_three(words);
+    let (g, h, i) = read_three(words);
+    [a, b, c, d, e, f, g, h, i]
 }
 
 #[tactic(auto, unfolding(crate::specs::Records::axis))]
-fn read_axis(words: &mut Words<'_>) -> Option<Axis>
-    ensures { Reads (axis words.old) result words.new }
+fn read_axis(words: &mut Words<'_>) -> Axis
+    ensures { axis words.old ≡ (result, words.new) }
 {
-    let first = read_exact(words)?;
-    let second = read_exact(words)?;
-    let older = read_motion(words)?;
-    let samples = read_samples(words)?;
-    let estimate = read_motion(words)?;
-    Some(axis::axis_with(first, second, older, samples, estimate))
+    let first = read_exact(words);
+    let second = read_exact(words);
+    let older = read_motion(words);
+    let samples = read_samples(words);
+    let estimate = read_motion(words);
+    axis::axis_with(first, second, older, samples, estimate)
 }
 
 #[tactic(auto, unfolding(crate::specs::Records::state_of))]
@@ -84,47 +85,48 @@ fn state_of(n: u64) -> Option<State>
 }
 
 #[tactic(auto, unfolding(crate::specs::Records::state))]
-fn read_state(words: &mut Words<'_>) -> Option<State>
-    ensures { Reads (state words.old) result words.new }
+fn read_state(words: &mut Words<'_>) -> State
+    ensures { state words.old ≡ (result, words.new) }
 {
-    state_of(words.natural()?)
+    let n = words.natural();
+    words.given(state_of(n), State::Closed)
 }
 
 #[tactic(auto, unfolding(crate::specs::Records::tolerances))]
-fn read_tolerances(words: &mut Words<'_>) -> Option<Tolerances>
-    ensures { Reads (tolerances words.old) result words.new }
+fn read_tolerances(words: &mut Words<'_>) -> Tolerances
+    ensures { tolerances words.old ≡ (result, words.new) }
 {
-    let position = words.natural()?;
-    let velocity = words.natural()?;
-    Some(Tolerances { position, velocity })
+    let position = words.natural();
+    let velocity = words.natural();
+    Tolerances { position, velocity }
 }
 
 #[tactic(auto, unfolding(crate::specs::Records::settings))]
-pub(crate) fn read_settings(words: &mut Words<'_>) -> Option<Settings>
-    ensures { Reads (settings words.old) result words.new }
+pub(crate) fn read_settings(words: &mut Words<'_>) -> Settings
+    ensures { settings words.old ≡ (result, words.new) }
 {
-    let points = words.natural()? as usize;
-    let tolerances = read_tolerances(words)?;
-    let limit = words.natural()?;
-    Some(Settings {
+    let points = words.natural() as usize;
+    let tolerances = read_tolerances(words);
+    let limit = words.natural();
+    Settings {
         points,
         tolerances,
         limit,
-    })
+    }
 }
 
 #[tactic(auto, unfolding(crate::specs::Records::session))]
-pub fn read_session(words: &mut Words<'_>) -> Option<Session>
-    ensures { Reads (session words.old) result words.new }
+pub fn read_session(words: &mut Words<'_>) -> Result<Session, Session>
+    ensures { Reads (session words.old) (is_there words.new) result words.new }
 {
-    let state = read_state(words)?;
-    let settings = read_settings(words)?;
-    let accepted = words.natural()?;
-    let corrections = words.natural()?;
-    let x = read_axis(words)?;
-    let y = read_axis(words)?;
-    let z = read_axis(words)?;
-    Some(Session {
+    let state = read_state(words);
+    let settings = read_settings(words);
+    let accepted = words.natural();
+    let corrections = words.natural();
+    let x = read_axis(words);
+    let y = read_axis(words);
+    let z = read_axis(words);
+    words.answer(Session {
         state,
         points: settings.points,
         tolerances: settings.tolerances,

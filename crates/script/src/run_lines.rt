@@ -2,17 +2,17 @@
 ghost use mathlib.Core.List.{flatten};
 ghost use Rattle.text.specs.Writes.{Fits, HasRoom, Writes};
 ghost use Rattle.script.specs.Lines.{run_line};
-ghost use Rattle.script.specs.Words.{Reads};
+ghost use Rattle.script.specs.Words.{Reads, is_there};
 ghost use Rattle.script.specs.Runs.{run};
 
-use crate::calls::read_floats;
+use crate::calls::some_floats;
 use crate::lines::{put_natural, put_two};
 use crate::series::Series;
 use crate::words::Words;
 use text::Writer;
 
 // The points wanted, and the floats of the samples.
-#[derive(Drop)]
+#[derive(Clone, Copy)]
 pub struct RunCall {
     pub wanted: u64,
     pub floats: Series<f64, 192>,
@@ -20,12 +20,12 @@ pub struct RunCall {
 
 // What follows the name of a run: a number, and floats up to the end of the line.
 #[tactic(auto, unfolding(crate::specs::Runs::run))]
-pub fn read_run(words: &mut Words<'_>) -> Option<RunCall>
-    ensures { Reads (run words.old) result words.new }
+pub fn read_run(words: &mut Words<'_>) -> Result<RunCall, RunCall>
+    ensures { Reads (run words.old) (is_there words.new) result words.new }
 {
-    let wanted = words.natural()?;
-    let floats = read_floats(words)?;
-    Some(RunCall { wanted, floats })
+    let wanted = words.natural();
+    let floats = some_floats(words);
+    words.answer(RunCall { wanted, floats })
 }
 
 // The number, the points settled and the samples used.

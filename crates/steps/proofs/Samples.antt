@@ -15,12 +15,12 @@ use Rattle.ticks.proofs.Faults.{fault-means}
 use Rattle.steps.specs.Refusals.{sample_rules, fault_number}
 
 -- each fault has a number
-pub fault-numbered : (f : Fault) → NotZero (fault_number f)
+pub fault-numbered : (f : Fault) → NotZero (fault_number (Some f))
 fault-numbered NotANumber e = omega arith
 fault-numbered Infinite e = omega arith
 fault-numbered TooLarge e = omega arith
 
-number_of : (xs : List Float) (f : Fault) → FaultMeans xs (Some f) → first_of (sample_rules xs) ≡ fault_number f
+number_of : (xs : List Float) (f : Fault) → FaultMeans xs (Some f) → first_of (sample_rules xs) ≡ fault_number (Some f)
 unfolding first_of
 number_of xs NotANumber h = simp h
 number_of xs Infinite h = simp (h.0, h.1)
@@ -32,12 +32,12 @@ none_of xs h = simp (h.0, h.1, h.2)
 
 -- the worst fault of some floats
 module _ (xs : List Float) (f : Fault) (e : fault_in xs ≡ Some f) where
-  pub sample-number : Gives (sample_rules xs) (fault_number f)
+  pub sample-number : Gives (sample_rules xs) (fault_number (Some f))
   sample-number = record { first = number_of xs f ((fault-means xs (Some f)).0 e) }
 
   -- with other rules after them
-  pub samples-refuse : (rest : List (Bool × ℕ)) → Gives (sample_rules xs ++ rest) (fault_number f)
-  samples-refuse rest = first-before (sample_rules xs) rest (fault_number f) (fault-numbered f) sample-number.first
+  pub samples-refuse : (rest : List (Bool × ℕ)) → Gives (sample_rules xs ++ rest) (fault_number (Some f))
+  samples-refuse rest = first-before (sample_rules xs) rest (fault_number (Some f)) (fault-numbered f) sample-number.first
 
 -- or none
 module _ (xs : List Float) (e : fault_in xs ≡ None) where

@@ -1,5 +1,5 @@
 -- Which number refuses a call: each call has its rules in the paper's order, and the first that applies gives its number, 0 if none does. Definitions only.
-use Rattle.std.specs.Prelude.{ℕ, ◌+◌, ◌*◌, Bool, not, List, [], ◌∷◌, ◌++◌, eqb, leb, Float, length}
+use Rattle.std.specs.Prelude.{ℕ, ◌+◌, ◌*◌, Bool, not, List, [], ◌∷◌, ◌++◌, eqb, leb, Option, Some, None, Float, length}
 use Rattle.integers.specs.Tests.{◌and◌}
 use Rattle.rules.specs.Rules.{first_of}
 use Rattle.ticks.specs.declared.Fault.{Fault}
@@ -26,10 +26,11 @@ sample_rules xs =
     ∷ []
 
 -- the same by what is wrong with the floats, as the code finds it
-abbrev pub fault_number : Fault → ℕ
-fault_number NotANumber = 4
-fault_number Infinite = 13
-fault_number TooLarge = 5
+abbrev pub fault_number : Option Fault → ℕ
+fault_number None = 0
+fault_number (Some NotANumber) = 4
+fault_number (Some Infinite) = 13
+fault_number (Some TooLarge) = 5
 
 -- ---- open
 

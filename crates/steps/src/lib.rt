@@ -12,7 +12,7 @@ mod predicts;
 mod reports;
 mod withdraws;
 
-pub use checks::fault_number;
+pub use checks::{fault_number, refusal_of};
 pub use corrects::{correct_awaiting, correct_step};
 pub use opens::{axis_samples, open_step};
 pub use predicts::{predict_settled, predict_step};

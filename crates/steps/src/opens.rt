@@ -8,7 +8,7 @@ ghost use Rattle.steps.specs.Opening.{axis_samples, opened_with};
 ghost use Rattle.steps.specs.Refusals.{open_refusal};
 ghost use Rattle.steps.specs.Steps.{open_of};
 
-use crate::checks::fault_number;
+use crate::checks::refusal_of;
 use crate::{After, AfterOpen};
 use axis::Tolerances;
 use rules::{Reason, Refusal};
@@ -69,7 +69,7 @@ fn opened(
         return Err(Reason::OutOfRange.into());
     }
     if let Some(fault) = ticks::fault_in(floats) {
-        return Err(fault_number(fault));
+        return Err(refusal_of(fault));
     }
     Ok(open_with(points, tolerances, limit, q, floats))
 }

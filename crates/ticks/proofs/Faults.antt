@@ -14,6 +14,7 @@ use Rattle.std.specs.List.{fold, reduce, filter_map, cons_option}
 use Rattle.ticks.specs.declared.Sample.{Sample}
 use Rattle.ticks.specs.declared.WholeSample.{WholeSample}
 use Rattle.ticks.specs.declared.Fault.{Fault}
+use Rattle.ticks.specs.declared.FaultySample.{FaultySample}
 use Rattle.ticks.specs.declared.Fault.TheVariants.{TooLarge, Infinite, NotANumber}
 use Rattle.ticks.specs.Round.{rounded_of, is_not_a_number, is_infinite, is_too_large, ticks_in}
 use Rattle.ticks.specs.Samples.{any, fault_in, FaultMeans, AllTicks, WithinLimit, axes_of, whole_of, sample_with, sample_of}
@@ -154,15 +155,15 @@ none (x ∷ xs) h = fault-cons x xs ∙ rw h.0 (nothing-worse (fault_in xs) ∙ 
 pub nothing-means : (xs : List Float) → (fault_in xs ≡ None) ↔ AllTicks xs
 nothing-means xs = (λ e. all-ticks xs (ap rank e), none xs)
 
--- ---- a sample has its fault, or its ticks
+-- ---- a sample has its ticks, beside its fault where it has one
 
 module _ (s : Sample) where
-  pub sample-fault : (f : Fault) → Err f ≡ sample_of s → Some f ≡ fault_in (axes_of s)
+  pub sample-fault : (f : FaultySample) → Err f ≡ sample_of s → (Some f.fault ≡ fault_in (axes_of s)) × (f.ticks ≡ whole_of s)
   sample-fault f e = go (fault_in (axes_of s)) e
     where
-      go : (o : Option Fault) → Err f ≡ sample_with o (whole_of s) → Some f ≡ o
+      go : (o : Option Fault) → Err f ≡ sample_with o (whole_of s) → (Some f.fault ≡ o) × (f.ticks ≡ whole_of s)
       go None h = absurd (cc)
-      go (Some g) h = cc
+      go (Some g) h = let e : f ≡ record { fault = g; ticks = whole_of s } = cc in (ap (λ k. Some k.fault) e, ap (λ k. k.ticks) e)
 
   pub sample-ticks : (w : WholeSample) → Ok w ≡ sample_of s → (None ≡ fault_in (axes_of s)) × (w ≡ whole_of s)
   sample-ticks w e = go (fault_in (axes_of s)) e

@@ -13,7 +13,7 @@ figures-hold = (refl, (refl, (refl, (refl, (refl, (refl, (refl, tt)))))))
 
 figures-by-bits-hold : All figures_by_bits
 unfolding rounded_of of_bits any fault_in
-figures-by-bits-hold = (refl, (refl, (refl, (refl, (refl, (refl, (refl, (refl, (refl, (refl, (refl, (refl, (refl, (refl, (refl, (refl, (refl, (refl, (refl, (refl, (refl, (refl, (refl, (refl, (refl, (refl, (refl, (refl, (refl, (refl, (refl, (refl, (refl, (refl, tt))))))))))))))))))))))))))))))))))
+figures-by-bits-hold = (refl, (refl, (refl, (refl, (refl, (refl, (refl, (refl, (refl, (refl, (refl, (refl, (refl, (refl, (refl, (refl, (refl, (refl, (refl, (refl, (refl, (refl, (refl, (refl, (refl, (refl, (refl, (refl, (refl, (refl, (refl, (refl, tt))))))))))))))))))))))))))))))))
 
 pub table-holds : All (figures ++ figures_by_bits)
 table-holds = all_of figures figures_by_bits figures-hold figures-by-bits-hold

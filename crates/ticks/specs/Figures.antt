@@ -5,9 +5,10 @@ use Rattle.std.specs.Float.Ieee.{of_bits}
 use Rattle.integers.specs.Lines.{Line, line}
 use Rattle.ticks.specs.declared.WholeSample.{WholeSample}
 use Rattle.ticks.specs.declared.Fault.{Fault}
+use Rattle.ticks.specs.declared.FaultySample.{FaultySample}
 use Rattle.ticks.specs.declared.Fault.TheVariants.{TooLarge, Infinite, NotANumber}
 use Rattle.ticks.specs.Round.{rounded_of}
-use Rattle.ticks.specs.Samples.{fault_in, sample_of, whole_of}
+use Rattle.ticks.specs.Samples.{fault_in, sample_of}
 
 abbrev rounds : Float → Result ℤ Fault → Line
 rounds x r = line (Result ℤ Fault) (rounded_of x) r
@@ -72,9 +73,7 @@ figures_by_bits =
     -- too large, infinite and a NaN, the worst of them last
     ∷ line (Option Fault) (fault_in []) None
     ∷ line (Option Fault) (fault_in (bits 0x41B0_0000_0080_0001 ∷ bits 0xFFF0_0000_0000_0000 ∷ [])) (Some Infinite)
-    ∷ line (Result WholeSample Fault) (sample_of (record { x = bits 0x7FEF_FFFF_FFFF_FFFF; y = bits 0x7FF0_0000_0000_0000; z = bits 0x7FF8_0000_0000_0000 })) (Err NotANumber)
-    ∷ line WholeSample (whole_of (record { x = bits 0x7FEF_FFFF_FFFF_FFFF; y = bits 0x7FF0_0000_0000_0000; z = bits 0x7FF8_0000_0000_0000 })) (record { x = pos 0; y = pos 0; z = pos 0 })
-    ∷ line (Result WholeSample Fault) (sample_of (record { x = halves true 3; y = bits 0x7FEF_FFFF_FFFF_FFFF; z = halves false 5 })) (Err TooLarge)
-    ∷ line WholeSample (whole_of (record { x = halves true 3; y = bits 0x7FEF_FFFF_FFFF_FFFF; z = halves false 5 })) (record { x = negsuc 1; y = pos 0; z = pos 2 })
-    ∷ line (Result WholeSample Fault) (sample_of (record { x = halves true 3; y = halves true 1; z = halves false 5 })) (Ok (record { x = negsuc 1; y = pos 0; z = pos 2 }))
+    ∷ line (Result WholeSample FaultySample) (sample_of (record { x = bits 0x7FEF_FFFF_FFFF_FFFF; y = bits 0x7FF0_0000_0000_0000; z = bits 0x7FF8_0000_0000_0000 })) (Err (record { fault = NotANumber; ticks = record { x = pos 0; y = pos 0; z = pos 0 } }))
+    ∷ line (Result WholeSample FaultySample) (sample_of (record { x = halves true 3; y = bits 0x7FEF_FFFF_FFFF_FFFF; z = halves false 5 })) (Err (record { fault = TooLarge; ticks = record { x = negsuc 1; y = pos 0; z = pos 2 } }))
+    ∷ line (Result WholeSample FaultySample) (sample_of (record { x = halves true 3; y = halves true 1; z = halves false 5 })) (Ok (record { x = negsuc 1; y = pos 0; z = pos 2 }))
     ∷ []

@@ -3,6 +3,7 @@ use Rattle.std.specs.Prelude.{◌≡◌, Bool, true, false, cond, ◌||◌, List
 use Rattle.ticks.specs.declared.Sample.{Sample}
 use Rattle.ticks.specs.declared.WholeSample.{WholeSample}
 use Rattle.ticks.specs.declared.Fault.{Fault}
+use Rattle.ticks.specs.declared.FaultySample.{FaultySample}
 use Rattle.ticks.specs.declared.Fault.TheVariants.{TooLarge, Infinite, NotANumber}
 use Rattle.ticks.specs.Round.{limit, rounded_of, is_not_a_number, is_infinite, is_too_large, ticks_in}
 
@@ -27,12 +28,12 @@ axes_of s = s.x ∷ s.y ∷ s.z ∷ []
 abbrev pub whole_of : Sample → WholeSample
 whole_of s = record { x = ticks_in (rounded_of s.x); y = ticks_in (rounded_of s.y); z = ticks_in (rounded_of s.z) }
 
--- the ticks where there is no fault
-abbrev pub sample_with : Option Fault → WholeSample → Result WholeSample Fault
+-- the ticks, beside a fault where there is one
+abbrev pub sample_with : Option Fault → WholeSample → Result WholeSample FaultySample
 sample_with None w = Ok w
-sample_with (Some f) w = Err f
+sample_with (Some f) w = Err (record { fault = f; ticks = w })
 
-abbrev pub sample_of : Sample → Result WholeSample Fault
+abbrev pub sample_of : Sample → Result WholeSample FaultySample
 sample_of s = sample_with (fault_in (axes_of s)) (whole_of s)
 
 -- ---- what the laws of `proofs/Faults.antt` say in these words

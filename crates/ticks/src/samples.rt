@@ -5,7 +5,7 @@ ghost use Rattle.ticks.specs.Samples.{fault_in, sample_of};
 ghost use Rattle.ticks.specs.Faults.{gathered};
 
 use crate::rounding::round_to_tick;
-use crate::{Fault, Sample, WholeSample};
+use crate::{Fault, FaultySample, Sample, WholeSample};
 
 // Zero where there are none.
 pub fn ticks_in(r: Result<i64, Fault>) -> i64
@@ -21,25 +21,32 @@ pub fn fault_in(xs: &[f64]) -> Option<Fault>
     xs.iter().filter_map(|x| round_to_tick(*x).err()).max()
 }
 
-// The worst fault of the three, or their ticks.
+fn whole_of(x: Result<i64, Fault>, y: Result<i64, Fault>, z: Result<i64, Fault>) -> WholeSample
+    ensures { result ≡ record { x = ticks_in x; y = ticks_in y; z = ticks_in z } }
+{
+    WholeSample {
+        x: ticks_in(x),
+        y: ticks_in(y),
+        z: ticks_in(z),
+    }
+}
+
+// The ticks of the three, beside their worst fault where they have one.
 fn gather(
     x: Result<i64, Fault>,
     y: Result<i64, Fault>,
     z: Result<i64, Fault>,
-) -> Result<WholeSample, Fault>
+) -> Result<WholeSample, FaultySample>
     ensures { result ≡ gathered x y z }
 {
+    let ticks = whole_of(x, y, z);
     match x.err().max(y.err().max(z.err())) {
-        Some(fault) => Err(fault),
-        None => Ok(WholeSample {
-            x: ticks_in(x),
-            y: ticks_in(y),
-            z: ticks_in(z),
-        }),
+        Some(fault) => Err(FaultySample { fault, ticks }),
+        None => Ok(ticks),
     }
 }
 
-pub fn round_sample(s: Sample) -> Result<WholeSample, Fault>
+pub fn round_sample(s: Sample) -> Result<WholeSample, FaultySample>
     ensures { result ≡ sample_of s }
 {
     gather(round_to_tick(s.x), round_to_tick(s.y), round_to_tick(s.z))

@@ -40,7 +40,7 @@ returns-then-floats-s c =
 pub returns-in-Some : goal.returns-in-Some
 unfolding early_refusal
 returns-in-Some c =
-    refuses _ c.fault_number.ensures (fault-numbered _)
+    refuses _ c.refusal_of.ensures (fault-numbered _)
     (past-2 c.args.s c.args.floats.now (sym c.is_starting.ensures ∙ c.if-not-is_starting.false) c.if-floats-s.false (samples-refuse _ _ (sym c.in-Some.ensures) _))
 
 pub given_round-r-requires : goal.given_round-r-requires

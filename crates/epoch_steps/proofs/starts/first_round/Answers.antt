@@ -83,7 +83,7 @@ unfolding start_refusal
 returns-in-Some c =
     let r = request c.args.points c.args.tolerances c.args.limit c.args.epoch c.args.floats.now in
     let fits = ap point_in_range (sym c.exact_point-q.ensures) ∙ sym c.point_in_range.ensures ∙ c.if-not-point_in_range.false in
-    refuses _ c.fault_number.ensures (fault-numbered _)
+    refuses _ c.refusal_of.ensures (fault-numbered _)
     (past-6 r (sym c.points_hold.ensures ∙ c.if-not-points_hold.false) (sym c.has_centre.ensures ∙ c.if-not-has_centre.false) c.if-floats-points.false (sym c.settings_hold.ensures ∙ c.if-not-settings_hold.false) fits (samples-refuse _ _ (sym c.in-Some.ensures) _))
 
 pub given_round-r-requires : goal.given_round-r-requires

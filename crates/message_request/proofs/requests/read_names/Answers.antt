@@ -1,33 +1,29 @@
 -- `message_request::requests::read_names` meets its contract: seven lines.
-use Rattle.std.proofs.lemmas.Result.{err_from_is_err_and}
+use Rattle.std.proofs.Common.{ℕ, List, ◌∙◌, ap}
 use Rattle.text.specs.Numbers.{ascii}
+use Rattle.message_request.specs.declared.Rest.{Rest}
+use Rattle.message_request.specs.Lines.{rest_in}
 use Rattle.message_request.specs.Requests.{names_in}
 use Rattle.message_request.proofs.requests.read_names.Goals as goal
 
-pub returns-in_err-id : goal.returns-in_err-id
-unfolding names_in ascii
-returns-in_err-id c =
-    let p = err_from_is_err_and c.from_residual-in_err-id.result c.from_residual-in_err-id.ensures.1 in
-    rw (p.1, p.2, ← c.in_ok-created.ensures, ← c.in_ok-originator.ensures, ← c.in_ok-object.ensures, ← c.in_err-id.ensures)
-
-pub returns-in_err-center : goal.returns-in_err-center
-unfolding names_in ascii
-returns-in_err-center c =
-    let p = err_from_is_err_and c.from_residual-in_err-center.result c.from_residual-in_err-center.ensures.1 in
-    rw (p.1, p.2, ← c.in_ok-created.ensures, ← c.in_ok-originator.ensures, ← c.in_ok-object.ensures, ← c.in_ok-id.ensures, ← c.in_err-center.ensures)
-
-pub returns-in_err-frame : goal.returns-in_err-frame
-unfolding names_in ascii
-returns-in_err-frame c =
-    let p = err_from_is_err_and c.from_residual-in_err-frame.result c.from_residual-in_err-frame.ensures.1 in
-    rw (p.1, p.2, ← c.in_ok-created.ensures, ← c.in_ok-originator.ensures, ← c.in_ok-object.ensures, ← c.in_ok-id.ensures, ← c.in_ok-center.ensures, ← c.in_err-frame.ensures)
-
-pub returns-in_err-start : goal.returns-in_err-start
-unfolding names_in ascii
-returns-in_err-start c =
-    let p = err_from_is_err_and c.from_residual-in_err-start.result c.from_residual-in_err-start.ensures.1 in
-    rw (p.1, p.2, ← c.in_ok-created.ensures, ← c.in_ok-originator.ensures, ← c.in_ok-object.ensures, ← c.in_ok-id.ensures, ← c.in_ok-center.ensures, ← c.in_ok-frame.ensures, ← c.in_err-start.ensures)
-
 pub returns : goal.returns
 unfolding names_in ascii
-returns c = rw (← c.in_ok-created.ensures, ← c.in_ok-originator.ensures, ← c.in_ok-object.ensures, ← c.in_ok-id.ensures, ← c.in_ok-center.ensures, ← c.in_ok-frame.ensures, ← c.in_ok-start.ensures)
+returns c =
+    let text : List ℕ = c.args.text.now in
+    let next : List ℕ → Rest → Rest = λ word r. rest_in text r.next word in
+    let created = c.read_rest-created.ensures in
+    let originator = c.read_rest-originator.ensures ∙ ap (next (ascii "originator ")) created in
+    let object = c.read_rest-object.ensures ∙ ap (next (ascii "object ")) originator in
+    let id = c.read_rest-id.ensures ∙ ap (next (ascii "id ")) object in
+    let center = c.read_rest-center.ensures ∙ ap (next (ascii "center ")) id in
+    let frame = c.read_rest-frame.ensures ∙ ap (next (ascii "frame ")) center in
+    let start = c.read_rest-start.ensures ∙ ap (next (ascii "start ")) frame in
+    λ i. record {
+      created = created i;
+      originator = originator i;
+      object = object i;
+      id = id i;
+      center = center i;
+      frame = frame i;
+      start = start i;
+    }

@@ -6,10 +6,10 @@ use Rattle.player.proofs.Written.{room, ends-within}
 use Rattle.player.proofs.answering.answer_load.Goals as goal
 
 pub put_load-requires : goal.put_load-requires
-put_load-requires c = let n = c.in-Some.read.number in room (load_line n) (load-short n) c.at-w.ensures (omega arith)
+put_load-requires c = let n = c.in-Ok.read.number in room (load_line n) (load-short n) c.at-w.ensures (omega arith)
 
-pub returns-in-Some : goal.returns-in-Some
-returns-in-Some c =
-    let n = c.in-Some.read.number in
+pub returns-in-Ok : goal.returns-in-Ok
+returns-in-Ok c =
+    let n = c.in-Ok.read.number in
     let end = ends-within (load_line n) (load-short n) c.at-w.ensures c.put_load.ensures c.place-end.ensures in
     omega (arith, end)

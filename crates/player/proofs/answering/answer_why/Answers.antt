@@ -8,8 +8,8 @@ use Rattle.player.proofs.answering.answer_why.Goals as goal
 pub put_why-requires : goal.put_why-requires
 put_why-requires c = let e = c.explain.result in room (why_line e) (why-short e) c.at-w.ensures (omega arith)
 
-pub returns-in-Some : goal.returns-in-Some
-returns-in-Some c =
+pub returns-in-Ok : goal.returns-in-Ok
+returns-in-Ok c =
     let e = c.explain.result in
     let end = ends-within (why_line e) (why-short e) c.at-w.ensures c.put_why.ensures c.place-end.ensures in
     omega (arith, end)

@@ -9,7 +9,7 @@ use Rattle.player.proofs.explaining.explain_correct.Goals as goal
 pub put_sentence-requires : goal.put_sentence-requires
 put_sentence-requires c = record { part_bound = subst (λ e. e.reason.change.exact.part < D) (sym c.explain.ensures) (explained _ _); room = room _ (sentence-short _ _ _) c.at-w.ensures (omega arith) }
 
-pub returns-in-Some : goal.returns-in-Some
-returns-in-Some c =
+pub returns-in-Ok : goal.returns-in-Ok
+returns-in-Ok c =
     let end = ends-within _ (sentence-short _ _ _) c.at-w.ensures c.put_sentence.ensures c.place.ensures in
     omega (arith, end)

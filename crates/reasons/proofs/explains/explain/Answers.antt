@@ -1,6 +1,7 @@
 -- `reasons::explains::explain` meets its contract: the rules in order.
 use mathlib.Core.Path.{◌≡◌, sym, ap, ◌∙◌}
 use Prim.Native.Nat.{ℕ}
+use Rattle.std.specs.Prelude.{Some}
 use Rattle.rules.specs.Rules.{first_of}
 use Rattle.rules.proofs.Tests.{hit-not, past-not, given}
 use Rattle.ticks.specs.declared.Fault.{Fault}
@@ -28,17 +29,17 @@ returns-then-not-is_awaiting c =
     ∙ explains-as a.s a.a (hit-not (sym c.is_awaiting.ensures ∙ c.if-not-is_awaiting.true))
 
 -- a fault's number, and the first axis that has it
-faulty : (s : Session) (a : Sample) (f : Fault) {n : ℕ} {r : Reason} {u : Explanation} → n ≡ fault_number f → r ≡ first (has_fault f) named (axes_of a) →
-    u ≡ explanation n 0 r no_differences → u ≡ explained_by (fault_number f) (beside (fault_number f) (reasons_of s a)) s (whole_of a)
+faulty : (s : Session) (a : Sample) (f : Fault) {n : ℕ} {r : Reason} {u : Explanation} → n ≡ fault_number (Some f) → r ≡ first (has_fault f) named (axes_of a) →
+    u ≡ explanation n 0 r no_differences → u ≡ explained_by (fault_number (Some f)) (beside (fault_number (Some f)) (reasons_of s a)) s (whole_of a)
 faulty s a f g h e = e ∙ (λ i. explanation (g i) 0 (h i) no_differences) ∙ at-fault s a f
 
 pub returns-in-Err : goal.returns-in-Err
 returns-in-Err c =
-    let f = c.in-Err.fault in
+    let f = c.in-Err.sample.fault in
     let a = c.args in
     let points = point_rules a.s (corrected_point a.s (whole_of a.a)) in
-    faulty a.s a.a f (c.number.ensures ∙ c.fault_number.ensures) c.first_axis.ensures c.refused-in-Err.ensures
-    ∙ explains-as a.s a.a (past-not (sym c.is_awaiting.ensures ∙ c.if-not-is_awaiting.false) (samples-refuse (axes_of a.a) f (sym (sample-fault a.a f c.in-Err.ensures)) points))
+    faulty a.s a.a f c.fault_number.ensures c.first_axis.ensures c.refused-in-Err.ensures
+    ∙ explains-as a.s a.a (past-not (sym c.is_awaiting.ensures ∙ c.if-not-is_awaiting.false) (samples-refuse (axes_of a.a) f (sym (sample-fault a.a c.in-Err.sample c.in-Err.ensures).0) points))
 
 pub explain_with-requires-clause-within_limit : goal.explain_with-requires-clause-within_limit
 explain_with-requires-clause-within_limit c = rw (sample-ticks c.args.a c.in-Ok.w c.in-Ok.ensures).1 (whole-within c.args.a)

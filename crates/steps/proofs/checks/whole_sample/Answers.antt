@@ -4,6 +4,7 @@ use Rattle.std.specs.Prelude.{refl, Option, Some, None, Result, Ok, MatchResult,
 use Rattle.std.proofs.lemmas.Result.{err_from_is_err_and}
 use Rattle.rules.specs.Rules.{first_of}
 use Rattle.ticks.specs.declared.Fault.{Fault}
+use Rattle.ticks.specs.declared.FaultySample.{FaultySample}
 use Rattle.ticks.specs.declared.Sample.{Sample}
 use Rattle.ticks.specs.declared.WholeSample.{WholeSample}
 use Rattle.ticks.specs.Samples.{axes_of, whole_of, fault_in, sample_with}
@@ -13,8 +14,8 @@ use Rattle.steps.proofs.Results.{refuses, passes}
 use Rattle.steps.proofs.Samples.{fault-numbered, sample-number, no-number}
 use Rattle.steps.proofs.checks.whole_sample.Goals as goal
 
-abbrev Maps : Result WholeSample Fault → Result WholeSample ℕ → Type 0
-Maps r y = MatchResult r (λ x. y ≡ Ok x) (λ f. IsErrAnd y (λ n. n ≡ fault_number f))
+abbrev Maps : Result WholeSample FaultySample → Result WholeSample ℕ → Type 0
+Maps r y = MatchResult r (λ x. y ≡ Ok x) (λ f. IsErrAnd y (λ n. n ≡ fault_number (Some f.fault)))
 
 module _ (a : Sample) (y : Result WholeSample ℕ) where
   by_fault : (k : Option Fault) → fault_in (axes_of a) ≡ k → Maps (sample_with k (whole_of a)) y → y ≡ unrefused (first_of (sample_rules (axes_of a))) (whole_of a)

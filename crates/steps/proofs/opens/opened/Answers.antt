@@ -69,7 +69,7 @@ unfolding open_refusal
 returns-in-Some c =
     let r = request c.args.points c.args.tolerances c.args.limit c.args.point c.args.floats.now in
     let fits = ap point_in_range (sym c.exact_point-q.ensures) ∙ sym c.point_in_range.ensures ∙ c.if-not-point_in_range.false in
-    refuses _ c.fault_number.ensures (fault-numbered _)
+    refuses _ c.refusal_of.ensures (fault-numbered _)
     (past-4 r (sym c.points_hold.ensures ∙ c.if-not-points_hold.false) c.if-floats-points.false (sym c.settings_hold.ensures ∙ c.if-not-settings_hold.false) fits (sample-number _ _ (sym c.in-Some.ensures)))
 
 pub open_with-requires-clause-le_points : goal.open_with-requires-clause-le_points

@@ -1,11 +1,11 @@
--- `received::forms::passes` meets its contract: the form's front, and its test of the rest.
+-- `received::forms::is_entry` meets its contract: the form's front, and its test of the rest.
 use mathlib.Core.Path.{sym, ◌∙◌}
 use borrow.Author.Rules.{rules}
 use Rattle.received.specs.Slots.{form_of}
 use Rattle.received.specs.Reading.{slot_at}
 use Rattle.received.proofs.Fronts.{of-rest_of}
 use Rattle.received.proofs.Dispatch.{front_same}
-use Rattle.received.proofs.forms.passes.Goals as goal
+use Rattle.received.proofs.forms.is_entry.Goals as goal
 
 pub returns : goal.returns
 returns c =
