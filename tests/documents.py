@@ -14,8 +14,8 @@ module without its folder is one of the folder, else of the crate, that was last
   contract of `f`            a function of that name
   `label` (in `crate`)       under the head "edits that are refused": an edit of that crate, else of a crate named under the heading
   any other                  a crate, a library of the kit, a file, or defined somewhere in crates/
-Of README and every document of docs/ the paths are held, and the names under the head "crate"; not of PORT and
-DESIGN-PASS, which name what was beside what is.
+Of README and every document of docs/ the paths are held (`CRATE, src/FILE` in running text is that crate's file), and the names under the
+head "crate"; not of PORT and DESIGN-PASS, which name what was beside what is.
 """
 import pathlib
 import re
@@ -34,6 +34,8 @@ QUOTED = re.compile(r"`([^`]+)`")
 # a path in backticks, and one in running text
 QUOTED_PATH = re.compile(r"`(\.?\w[\w.*-]*/[\w.*/-]*)")
 PATH = re.compile(r"(?<![\w/.*-])\.?\w[\w.*-]*(?:/[\w*-][\w.*-]*)+")
+# a crate and a file of it, in running text
+IN_CRATE = re.compile(r"\b(\w+), (src/\w+\.rt)\b")
 
 # a cell's text has <n3> for its fourth name, <f3> where that is a path and <c3> where it is a crate
 LIST = r"<n\d+>(?:(?:,|,? and|,? \.\.,?)(?: of| the [a-z]+)? <n\d+>)*"
@@ -156,7 +158,8 @@ class Section:
         if head == "crate":
             for name in QUOTED.findall(cell):
                 yield name, None if name in repository.crates else Fault("no such crate")
-        plain = [path for path in PATH.findall(QUOTED.sub("", cell)) if repository.is_like_ours(path)]
+        running = IN_CRATE.sub(r"crates/\1/\2", QUOTED.sub("", cell))
+        plain = [path for path in PATH.findall(running) if repository.is_like_ours(path)]
         for path in plain + (QUOTED_PATH.findall(cell) if quoted else []):
             try:
                 repository.find(path.rstrip("."))
@@ -215,6 +218,7 @@ SOUND = {
     "edits/b/other.edit": "",
     "README.md": "| crate | what |\n|---|---|\n| `a` | one, see docs/FORMS.md and `edits/` |\n",
     "docs/FORMS.md": "`crates/a/src/lib.rt`: `Point`; `io`; no `requires`\n",
+    "docs/LOOK-BACK.md": "a, src/lib.rt, move: as it was; b, -, law-1: the same\n",
     "docs/EXCEPTIONS.md": "| function |\n|---|\n| `a`: `move` |\n| `a::move` |\n",
     "docs/INSPECTION.md": "| id | definition | edits that are refused |\n|---|---|---|\n"
     "| 1 | `moved` in `a/specs/Rules.antt`; `first` in `Rule`; contract of `move` | `wrong`, `other` (in `b`) |\n| 2 | `law-1`, `Laws.antt` | |\n",
@@ -226,6 +230,7 @@ DAMAGE = [
     ("docs/FORMS.md", "`Point`", "`moved`"),
     ("docs/FORMS.md", "`io`", "`oi`"),
     ("docs/FORMS.md", "src/lib.rt`: `Point`", "src/none.rt`"),
+    ("docs/LOOK-BACK.md", "a, src/lib.rt", "b, src/lib.rt"),
     ("docs/EXCEPTIONS.md", "`a`: `move`", "`a`: `moved`"),
     ("docs/EXCEPTIONS.md", "`a::move`", "`b::move`"),
     ("docs/INSPECTION.md", "`moved` in", "`law-1` in"),

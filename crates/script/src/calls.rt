@@ -1,5 +1,5 @@
 // The calls of a script, read from a line.
-ghost use Rattle.std.specs.Prelude.{◌≡◌, ◌||◌};
+ghost use Rattle.std.specs.Prelude.{◌≡◌, ◌||◌, eqb};
 ghost use Rattle.script.specs.Words.{Reads, is_over, is_there};
 ghost use Rattle.script.specs.Calls.{bare_name, name_of, sample, point, floats, opening, loaded, load};
 
@@ -115,13 +115,13 @@ pub(crate) fn some_floats<const N: usize>(words: &mut Words<'_>) -> Series<f64, 
     read_series(words)
 }
 
-// The same alone; where the line is over none is missing.
+// The same alone; where none is wanted, or the line is over, none is missing.
 pub fn read_floats<const N: usize>(words: &mut Words<'_>) -> Result<Series<f64, N>, Series<f64, N>>
-    ensures { Reads (floats N words.old) (is_over words.old || is_there words.new) result words.new }
+    ensures { Reads (floats N words.old) (eqb N 0 || is_over words.old || is_there words.new) result words.new }
 {
-    let over = words.is_over();
+    let whole = N == 0 || words.is_over();
     let floats = some_floats(words);
-    if over {
+    if whole {
         Ok(floats)
     } else {
         words.answer(floats)
@@ -192,4 +192,34 @@ pub fn read_load(words: &mut Words<'_>) -> Result<Loaded, Loaded>
     let bytes = read_series::<u8, 2048>(words);
     let read = loaded(words, bytes.as_slice());
     words.answer(read)
+}
+
+#[cfg(test)]
+mod tests {
+    use super::read_floats;
+    use crate::words::Words;
+
+    // Where none is wanted none is missing; a word that is none is missing; so many are read, and the rest of the line stays.
+    #[test]
+    fn floats_of_a_line(rt: HostRuntime) {
+        let line = b"refine 3ff0000000000000 4000000000000000";
+        for at in [0, 6, 100] {
+            let mut words = Words::new(line, at);
+            assert!(rt; read_floats::<0>(&mut words).is_ok(), "none wanted at {at}");
+            assert_eq!(rt; words.is_there(), at != 0, "the place stays {at}");
+        }
+        assert!(rt; read_floats::<64>(&mut Words::new(line, 0)).is_err());
+        assert!(rt; read_floats::<64>(&mut Words::new(b"", 0)).is_ok());
+        let mut words = Words::new(line, 6);
+        match read_floats::<1>(&mut words) {
+            Ok(floats) => assert_eq!(rt; floats.as_slice(), [1.0].as_slice()),
+            Err(_) => assert!(rt; false),
+        }
+        match read_floats::<64>(&mut words) {
+            Ok(floats) => assert_eq!(rt; floats.as_slice(), [2.0].as_slice()),
+            Err(_) => assert!(rt; false),
+        }
+        assert!(rt; words.is_over());
+        assert!(rt; read_floats::<64>(&mut Words::new(line, 5)).is_err());
+    }
 }

@@ -41,6 +41,13 @@ impl<'a> Words<'a> {
         self.at == self.line.len()
     }
 
+    // Whether no word was missing.
+    pub fn is_there(&self) -> bool
+        ensures { result ≡ is_there self.now }
+    {
+        0 < self.at
+    }
+
     // A space; none stands at a line's start.
     #[tactic(auto, unfolding(crate::specs::Words::a_space))]
     pub(crate) fn space(&mut self)
